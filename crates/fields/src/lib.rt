@@ -1,0 +1,1 @@
+// The header fields of a frame (document 01, "Fields").

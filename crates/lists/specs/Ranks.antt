@@ -1,0 +1,41 @@
+-- Document 01, "Tests, filters, ranks", last paragraph: ranks and the match set.
+--   above fs i j       filter i ranks above filter j
+--   fires fs r i       filter i's tests all hold, where field n reads r n; false beyond the list
+--   matches fs r i     filter i is in the match set
+use Prim.Native.Nat.{ℕ}
+use mathlib.Core.Bool.{Bool, true, false, not, _&&_, _||_}
+use mathlib.Core.List.{List, [], _∷_}
+use lib.Dec.{ltb, eqb}
+use lib.ListN.{length, getD}
+use Rattle.residue.specs.Tests.{holdsOf}
+use Rattle.residue.specs.declared.Reading.{Reading}
+use Rattle.sets.specs.Sets.{some}
+use Rattle.lists.specs.Filters.{Item, Filter}
+
+abbrev pub noFilter : Filter
+noFilter = record { group = 0; level = 0; tests = [] }
+
+abbrev pub groupOf : List Filter → ℕ → ℕ
+groupOf fs i = getD fs i noFilter .group
+
+abbrev pub levelOf : List Filter → ℕ → ℕ
+levelOf fs i = getD fs i noFilter .level
+
+abbrev pub testsOf : List Filter → ℕ → List Item
+testsOf fs i = getD fs i noFilter .tests
+
+-- In one group: the higher level, or the same level and the earlier place.
+unfoldable pub above : List Filter → ℕ → ℕ → Bool
+above fs i j =
+    eqb (groupOf fs i) (groupOf fs j) &&
+    (ltb (levelOf fs j) (levelOf fs i) || (eqb (levelOf fs i) (levelOf fs j) && ltb i j))
+
+unfoldable pub allHold : (ℕ → Reading) → List Item → Bool
+allHold r [] = true
+allHold r (t ∷ ts) = holdsOf (t .test) (r (t .field)) && allHold r ts
+
+unfoldable pub fires : List Filter → (ℕ → Reading) → ℕ → Bool
+fires fs r i = ltb i (length fs) && allHold r (testsOf fs i)
+
+unfoldable pub matches : List Filter → (ℕ → Reading) → ℕ → Bool
+matches fs r i = fires fs r i && not (some (length fs) (λ j. above fs j i && fires fs r j))
