@@ -1,0 +1,1 @@
+// The states that a machine meets, depth first; no code.
