@@ -1,0 +1,1 @@
+// What a state says and why a path is right; no code.
