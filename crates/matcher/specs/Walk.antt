@@ -1,0 +1,87 @@
+-- Document 01, "Refusal numbers", the paragraph on classifying: what a walk through any table's words answers.
+--   maxFrame            1,522 bytes
+--   Shown               how the walk ended (0 refused, 1 done, 2 stopped), the refusal's number, sure, out, questions asked
+--   shown a             document 01's numbers for each case of the enum Answer
+--   damaged t n         record n has a kind above 4, or a kind that is not 0 and a field above the last
+--   nextOf t r n        the next number that record n has for a frame whose field f reads r f
+--   walkFrom t m r a k n  the walk from record n on, in a table of m states, with a questions allowed and k asked so far
+--   walk f p t m a      the whole of it: frame, box port, table, number of states, allowance
+use Prim.Native.Nat.{ℕ, zero, suc, _+_}
+use mathlib.Core.Bool.{Bool, true, false, cond, not, _&&_, _||_}
+use mathlib.Core.List.{List}
+use lib.Dec.{leb, ltb, eqb}
+use lib.ListN.{length}
+use Rattle.residue.specs.Tests.{holds}
+use Rattle.residue.specs.declared.Reading.{Reading}
+use Rattle.residue.specs.declared.Reading.the-variants.{Absent, Value}
+use Rattle.fields.specs.Widths.{fieldCount}
+use Rattle.fields.specs.Fields.{field}
+use Rattle.lists.specs.Filters.{testOf}
+use Rattle.tables.specs.Tables.{slotsOf, wordOf, kindAt, fieldAt, maskAt, valueAt, holdsAt, failsAt, absentAt, sureAt, outAt}
+use Rattle.matcher.specs.declared.Answer.{Answer}
+use Rattle.matcher.specs.declared.Answer.the-variants.{Done, Stopped, Refused}
+
+abbrev pub maxFrame : ℕ
+maxFrame = 1522
+
+pub record Shown : Type 0 where
+  pub ended : ℕ
+  pub refusal : ℕ
+  pub sure : ℕ
+  pub out : ℕ
+  pub asked : ℕ
+
+abbrev pub done : ℕ → ℕ → ℕ → Shown
+done s o k = record { ended = 1; refusal = 0; sure = s; out = o; asked = k }
+
+abbrev pub stopped : ℕ → ℕ → ℕ → Shown
+stopped s o k = record { ended = 2; refusal = 0; sure = s; out = o; asked = k }
+
+-- A refusal has zeros for the sets and the count.
+abbrev pub refused : ℕ → Shown
+refused n = record { ended = 0; refusal = n; sure = 0; out = 0; asked = 0 }
+
+abbrev pub shown : Answer → Shown
+shown (Done s o k) = done s o k
+shown (Stopped s o k) = stopped s o k
+shown (Refused n) = refused n
+
+unfoldable pub damaged : List ℕ → ℕ → Bool
+damaged t n = ltb 4 (wordOf t n kindAt) || (not (eqb (wordOf t n kindAt) 0) && leb fieldCount (wordOf t n fieldAt))
+
+-- The absent way where the field is absent; else the holds or the fails way. Kinds 3 and 4 have no mask.
+unfoldable pub nextBy : List ℕ → ℕ → Reading → ℕ
+nextBy t n Absent = wordOf t n absentAt
+nextBy t n (Value x) =
+    cond (holds (testOf (wordOf t n kindAt) (wordOf t n maskAt) (wordOf t n valueAt)) x)
+    (wordOf t n holdsAt)
+    (wordOf t n failsAt)
+
+unfoldable pub nextOf : List ℕ → (ℕ → Reading) → ℕ → ℕ
+nextOf t r n = nextBy t n (r (wordOf t n fieldAt))
+
+-- The first of these that fits: a damaged record, a final one, a question that may go on.
+unfoldable pub arrive : Bool → Bool → Shown → Shown → Shown
+arrive true final end on = refused 13
+arrive false true end on = end
+arrive false false end on = on
+
+-- A next number that is not below the number of states is damage.
+unfoldable pub onward : Bool → Shown → Shown
+onward true on = on
+onward false on = refused 13
+
+unfoldable pub walkFrom : List ℕ → ℕ → (ℕ → Reading) → ℕ → ℕ → ℕ → Shown
+walkFrom t m r zero k n =
+    arrive (damaged t n) (eqb (wordOf t n kindAt) 0)
+    (done (wordOf t n sureAt) (wordOf t n outAt) k)
+    (stopped (wordOf t n sureAt) (wordOf t n outAt) k)
+walkFrom t m r (suc a) k n =
+    let rest = walkFrom t m r a (k + 1) (nextOf t r n) in
+    let on = onward (ltb (nextOf t r n) m) rest in
+    arrive (damaged t n) (eqb (wordOf t n kindAt) 0) (done (wordOf t n sureAt) (wordOf t n outAt) k) on
+
+unfoldable pub walk : List ℕ → ℕ → List ℕ → ℕ → ℕ → Shown
+walk f p t m a =
+    cond (ltb maxFrame (length f)) (refused 12)
+    (cond (eqb m 0 || ltb (slotsOf t) m) (refused 13) (walkFrom t m (field f p) a 0 0))
