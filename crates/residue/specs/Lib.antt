@@ -1,3 +1,9 @@
 pub mod Tests
 pub mod Facts
 pub mod Residues
+pub mod Relations
+pub mod Choice
+pub mod Bits
+pub mod Lines
+pub mod Sound
+pub mod Laws
