@@ -176,39 +176,39 @@ zero-sets bs = go (none bs) refl
 
 -- ---- tallies
 
-pub length-tally : (n : ℕ) (p : ℕ → Bool) → length (tally n p) ≡ n
+pub length-tally : {A : Type 0} (n : ℕ) (p : ℕ → A) → length (tally n p) ≡ n
 unfolding tally
 length-tally zero p = refl
 length-tally (suc n) p = omega (arith, length-append (tally n p) (p n ∷ []), length-tally n p)
 
-pub tally-more : (n : ℕ) (p : ℕ → Bool) → tally (n + 1) p ≡ tally n p ++ (p n ∷ [])
+pub tally-more : {A : Type 0} (n : ℕ) (p : ℕ → A) → tally (n + 1) p ≡ tally n p ++ (p n ∷ [])
 unfolding tally
 tally-more n p = rw add-one
 
-pub getD-tally : (n : ℕ) (p : ℕ → Bool) (i : ℕ) → i < n → getD (tally n p) i false ≡ p i
+pub getD-tally : {A : Type 0} (n : ℕ) (p : ℕ → A) (d : A) (i : ℕ) → i < n → getD (tally n p) i d ≡ p i
 unfolding tally
-getD-tally zero p i l = absurd (not-suc-le-zero l)
-getD-tally (suc n) p i l =
+getD-tally zero p d i l = absurd (not-suc-le-zero l)
+getD-tally (suc n) p d i l =
     ⊎-elim
-    (λ (e : i ≡ n). getD-at (tally n p) (p n) [] false i (length-tally n p ∙ sym e) ∙ ap p (sym e))
-    (λ (m : i < n). List·getD-append (tally n p) (p n ∷ []) false i (rw length-tally m) ∙ getD-tally n p i m)
+    (λ (e : i ≡ n). getD-at (tally n p) (p n) [] d i (length-tally n p ∙ sym e) ∙ ap p (sym e))
+    (λ (m : i < n). List·getD-append (tally n p) (p n ∷ []) d i (rw length-tally m) ∙ getD-tally n p d i m)
     (eq-or-lt-of-le (le-of-suc-le-suc l))
 
-pub getD-tally-beyond : (n : ℕ) (p : ℕ → Bool) (i : ℕ) → n ≤ i → getD (tally n p) i false ≡ false
-getD-tally-beyond n p i l = List·getD-eq-default (tally n p) false (rw length-tally l)
+pub getD-tally-beyond : {A : Type 0} (n : ℕ) (p : ℕ → A) (d : A) (i : ℕ) → n ≤ i → getD (tally n p) i d ≡ d
+getD-tally-beyond n p d i l = List·getD-eq-default (tally n p) d (rw length-tally l)
 
 pub member-tally : (n : ℕ) (p : ℕ → Bool) (i : ℕ) → member i (setOf (tally n p)) ≡ (ltb i n && p i)
 member-tally n p i = member-setOf (tally n p) i ∙ go (ltb i n) refl
   where
     go : (b : Bool) → ltb i n ≡ b → getD (tally n p) i false ≡ (b && p i)
-    go true e = getD-tally n p i (ltb-true i n e)
-    go false e = getD-tally-beyond n p i (ltb-false i n e)
+    go true e = getD-tally n p false i (ltb-true i n e)
+    go false e = getD-tally-beyond n p false i (ltb-false i n e)
 
-pub tally-ext : (n : ℕ) (p q : ℕ → Bool) → ((i : ℕ) → i < n → p i ≡ q i) → tally n p ≡ tally n q
+pub tally-ext : {A : Type 0} (n : ℕ) (p q : ℕ → A) → ((i : ℕ) → i < n → p i ≡ q i) → tally n p ≡ tally n q
 unfolding tally
-tally-ext zero p q h = refl
-tally-ext (suc n) p q h =
-    ap₂ (λ (bs : List Bool) (b : Bool). bs ++ (b ∷ [])) (tally-ext n p q (λ i l. h i (omega arith))) (h n (omega arith))
+tally-ext {A} zero p q h = refl
+tally-ext {A} (suc n) p q h =
+    ap₂ (λ (bs : List A) (b : A). bs ++ (b ∷ [])) (tally-ext n p q (λ i l. h i (omega arith))) (h n (omega arith))
 
 each-snoc : (f : Bool → Bool → Bool) (xs ys : List Bool) (x y : Bool) → length xs ≡ length ys → each f (xs ++ (x ∷ [])) (ys ++ (y ∷ [])) ≡ each f xs ys ++ (f x y ∷ [])
 unfolding each
