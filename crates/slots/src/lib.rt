@@ -1,0 +1,1 @@
+// A state as the words of one slot.
