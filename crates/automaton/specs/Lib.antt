@@ -1,2 +1,4 @@
 pub mod Machines
 pub mod Placing
+pub mod Lawful
+pub mod Visited
