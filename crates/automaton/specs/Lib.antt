@@ -2,3 +2,4 @@ pub mod Machines
 pub mod Placing
 pub mod Lawful
 pub mod Visited
+pub mod Places

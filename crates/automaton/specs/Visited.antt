@@ -107,3 +107,42 @@ visit-distinct M (suc f) met s d =
     (λ e q. distinct-append M s d e)
     (λ e q. visit-distinct M f _ (M .step Absent s)
             (visit-distinct M f _ (M .step Fails s) (visit-distinct M f _ (M .step Holds s) (distinct-append M s d e))))
+
+-- With enough fuel a visit is a derivation.
+
+pub record Visit (M : Machine) (f : ℕ) (met : List (M .State)) (s : M .State) : Type 0 where
+  pub news : List (M .State)
+  pub out : visit M f met s ≡ met ++ news
+  pub way : Visits M met s news
+
+pub three-ways : {A : Type 0} (met : List A) (s : A) (a b c : List A) → met ++ s ∷ [] ++ a ++ b ++ c ≡ met ++ s ∷ (a ++ b ++ c)
+three-ways met s a b c = simp append-assoc
+
+visit-three : (M : Machine) (f : ℕ) (met : List (M .State)) (s : M .State) (a b c : List (M .State)) → meets M met s ≡ false → M .asks s ≡ true
+    → visit M f (met ++ s ∷ []) (M .step Holds s) ≡ met ++ s ∷ [] ++ a
+    → visit M f (met ++ s ∷ [] ++ a) (M .step Fails s) ≡ met ++ s ∷ [] ++ a ++ b
+    → visit M f (met ++ s ∷ [] ++ a ++ b) (M .step Absent s) ≡ met ++ s ∷ [] ++ a ++ b ++ c
+    → visit M (suc f) met s ≡ met ++ s ∷ (a ++ b ++ c)
+unfolding visitWays
+visit-three M f met s a b c e eq p q r = visit-asking M f met s e eq ∙ ways
+  where
+    ways : visitWays M (visit M f) (met ++ s ∷ []) s ≡ met ++ s ∷ (a ++ b ++ c)
+    ways = rw (p, q, r) (three-ways met s a b c)
+
+module _ {M : Machine} {Good : M .State → Type 0} {left : M .State → ℕ} (law : Lawful M Good left) where
+  pub visit-visits : (f : ℕ) (met : List (M .State)) (s : M .State) → Good s → left s < f → Visit M f met s
+  visit-visits zero met s g h = absurd (not-suc-le-zero h)
+  visit-visits (suc f) met s g h = go (λ met s g h. visit-visits f met s g h) (meets M met s) (M .asks s) refl refl
+    where
+      go : ((met : List (M .State)) (s : M .State) → Good s → left s < f → Visit M f met s)
+        → (b q : Bool) → meets M met s ≡ b → M .asks s ≡ q → Visit M (suc f) met s
+      go below true q e eq = record { news = []; out = visit-old M f met s e ∙ sym (append-nil met); way = old e }
+      go below false false e eq = record { news = s ∷ []; out = visit-final M f met s e eq; way = final e eq }
+      go below false true e eq =
+          let fell : (o : Outcome) → left (M .step o s) < f = λ o. omega (arith, law .falls o s g eq) in
+          let h1 = below (met ++ s ∷ []) (M .step Holds s) (law .good-step Holds s g eq) (fell Holds) in
+          let h2 = below (met ++ s ∷ [] ++ h1 .news) (M .step Fails s) (law .good-step Fails s g eq) (fell Fails) in
+          let h3 = below (met ++ s ∷ [] ++ h1 .news ++ h2 .news) (M .step Absent s) (law .good-step Absent s g eq) (fell Absent) in
+          record { news = s ∷ (h1 .news ++ h2 .news ++ h3 .news);
+                   out = visit-three M f met s (h1 .news) (h2 .news) (h3 .news) e eq (h1 .out) (h2 .out) (h3 .out);
+                   way = asking e eq (h1 .way) (h2 .way) (h3 .way) }
