@@ -3,3 +3,4 @@ pub mod Placing
 pub mod Lawful
 pub mod Visited
 pub mod Places
+pub mod Reaching
