@@ -4,3 +4,4 @@ pub mod Lawful
 pub mod Visited
 pub mod Places
 pub mod Reaching
+pub mod Records

@@ -23,6 +23,10 @@ getD-mem (x ∷ l) (suc i) d h = List·Memᴰ·tail (getD-mem l i d (le-of-suc-l
 
 -- The states met, as a longer list has them.
 
+pub meets-nil : (M : Machine) (s : M .State) → meets M [] s ≡ false
+unfolding meets
+meets-nil M s = refl
+
 pub meets-append : (M : Machine) (met more : List (M .State)) (s : M .State) → meets M met s ≡ true → meets M (met ++ more) s ≡ true
 unfolding meets
 meets-append M [] more s e = absurd (false≢true e)

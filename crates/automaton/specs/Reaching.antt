@@ -1,16 +1,18 @@
 -- The states met from a start are those that outcomes reach from it, and they are closed under step.
 --   Explored M met s news  after met and news, s is met and so are the ways of every state of news
 use Prim.Native.Nat.{ℕ, zero, suc, _+_, _≤_, _<_}
+use native.Mathlib.Nat.{not-suc-le-zero}
 use mathlib.Core.Path.{_≡_, refl, sym, ap, _∙_, subst}
 use mathlib.Core.Bool.{Bool, true, false, false≢true}
 use mathlib.Core.Logic.{_⊎_, inl, inr, ⊎-elim}
 use mathlib.Core.List.{List, [], _∷_, _++_, append-nil, List·Memᴰ, List·Memᴰ·head, List·Memᴰ·tail, List·Memᴰ·not-nil, List·Memᴰ·cases-cons, List·Memᴰ·append-cases, List·Memᴰ·eq-of-singleton, Memᴰ·append-left, Memᴰ·append-right, Memᴰ·cast}
+use lib.ListN.{length, getD}
 use Rattle.residue.specs.declared.Outcome.{Outcome}
 use Rattle.residue.specs.declared.Outcome.the-variants.{Holds, Fails, Absent}
 use Rattle.automaton.specs.Machines.{Machine, meets, placeOf, visit}
 use Rattle.automaton.specs.Lawful.{Lawful, Reached, start, further, Each, Begins, Distinct, distinct-none}
-use Rattle.automaton.specs.Visited.{Visits, old, final, asking, Visit, visit-visits, three-ways, begins-append, begins-mem, visit-distinct}
-use Rattle.automaton.specs.Places.{mem-meets, meets-mem, place-new}
+use Rattle.automaton.specs.Visited.{Visits, old, final, asking, Visit, visit-visits, three-ways, visit-start, visit-distinct}
+use Rattle.automaton.specs.Places.{getD-mem, mem-meets, meets-mem, meets-nil, place-new, place-state, place-getD}
 
 pub record Explored (M : Machine) (met : List (M .State)) (s : M .State) (news : List (M .State)) : Type 0 where
   pub has : List·Memᴰ s (met ++ news)
@@ -89,6 +91,11 @@ module _ {M : Machine} {Good : M .State → Type 0} {left : M .State → ℕ} (l
       record { has = Memᴰ·append-right met (List·Memᴰ·head refl);
                closed = λ o t m q. subst (λ (l : List (M .State)). List·Memᴰ (M .step o t) l) (three-ways met s a b c) (visits-closed met a b c s v' w' z' o t m q) }
 
+  pub visit-has : (f : ℕ) (met : List (M .State)) (s : M .State) → Each Good met → Good s → left s < f → meets M (visit M f met s) s ≡ true
+  visit-has f met s each g h =
+      let v = visit-visits law f met s g h in
+      rw (v .out) (mem-meets law g (visits-explored (v .way) each g .has))
+
   -- All states met from a start.
   module _ (f : ℕ) (s₀ : M .State) (good : Good s₀) (enough : left s₀ < f) where
     all-visits : Visit M f [] s₀
@@ -111,10 +118,10 @@ module _ {M : Machine} {Good : M .State → Type 0} {left : M .State → ℕ} (l
     all-start = mem-meets law good (explored .has)
 
     pub all-reached : (s : M .State) → meets M (visit M f [] s₀) s ≡ true → Reached M s₀ s
-    all-reached s e = reached-all s (meets-mem law (visit M f [] s₀) s all-each-good e)
+    all-reached s e = each-reached s (meets-mem law (visit M f [] s₀) s all-each-good e)
       where
-        reached-all : Each (Reached M s₀) (visit M f [] s₀)
-        reached-all = rw (all-visits .out) (visits-reached (all-visits .way))
+        each-reached : Each (Reached M s₀) (visit M f [] s₀)
+        each-reached = rw (all-visits .out) (visits-reached (all-visits .way))
 
     pub reached-all : {s : M .State} → Reached M s₀ s → meets M (visit M f [] s₀) s ≡ true
     reached-all start = all-start
@@ -122,3 +129,23 @@ module _ {M : Machine} {Good : M .State → Type 0} {left : M .State → ℕ} (l
 
     pub all-distinct : Distinct M (visit M f [] s₀)
     all-distinct = visit-distinct M f [] s₀ distinct-none
+
+    pub all-getD-meets : (i : ℕ) (d : M .State) → i < length (visit M f [] s₀) → meets M (visit M f [] s₀) (getD (visit M f [] s₀) i d) ≡ true
+    all-getD-meets i d h =
+        let m = getD-mem (visit M f [] s₀) i d h in
+        mem-meets law (all-each-good _ m) m
+
+    pub all-place-state : (s d : M .State) → meets M (visit M f [] s₀) s ≡ true → getD (visit M f [] s₀) (placeOf M (visit M f [] s₀) s) d ≡ s
+    all-place-state s d e = place-state law (visit M f [] s₀) s d all-each-good e
+
+    pub all-place-getD : (i : ℕ) (d : M .State) → i < length (visit M f [] s₀) → placeOf M (visit M f [] s₀) (getD (visit M f [] s₀) i d) ≡ i
+    all-place-getD i d h = place-getD law (visit M f [] s₀) i d all-each-good all-distinct h
+
+    pub all-place-start : placeOf M (visit M f [] s₀) s₀ ≡ 0
+    all-place-start = go f enough
+      where
+        go : (f : ℕ) → left s₀ < f → placeOf M (visit M f [] s₀) s₀ ≡ 0
+        go zero h = absurd (not-suc-le-zero h)
+        go (suc f) h =
+            let b = visit-start M f s₀ in
+            rw (b .grown) (place-new M [] (b .rest) s₀ (meets-nil M s₀) (law .same-refl s₀ good))

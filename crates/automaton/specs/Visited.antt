@@ -67,16 +67,29 @@ begins-mem {A} {a} {b} {x} p m = subst (λ (l : List A). List·Memᴰ x l) (sym 
 
 -- What is met stays met, in its place.
 
+ways-extend : (M : Machine) (next : List (M .State) → M .State → List (M .State)) → ((met : List (M .State)) (s : M .State) → Begins met (next met s))
+    → (met : List (M .State)) (s : M .State) → Begins met (visitWays M next met s)
+unfolding visitWays
+ways-extend M next extends met s =
+    begins-trans (extends met (M .step Holds s)) (begins-trans (extends _ (M .step Fails s)) (extends _ (M .step Absent s)))
+
 pub visit-extends : (M : Machine) (f : ℕ) (met : List (M .State)) (s : M .State) → Begins met (visit M f met s)
-unfolding visit visitWays
+unfolding visit
 visit-extends M zero met s = begins-refl met
 visit-extends M (suc f) met s =
     visit-cases M (λ (out : List (M .State)). Begins met out) f met s
     (λ e. begins-refl met)
     (λ e q. begins-append met (s ∷ []))
-    (λ e q. begins-trans (begins-append met (s ∷ []))
-            (begins-trans (visit-extends M f _ (M .step Holds s))
-            (begins-trans (visit-extends M f _ (M .step Fails s)) (visit-extends M f _ (M .step Absent s)))))
+    (λ e q. begins-trans (begins-append met (s ∷ [])) (ways-extend M (visit M f) (λ met s. visit-extends M f met s) (met ++ s ∷ []) s))
+
+-- The start is the first state.
+pub visit-start : (M : Machine) (f : ℕ) (s : M .State) → Begins (s ∷ []) (visit M (suc f) [] s)
+unfolding meets
+visit-start M f s =
+    visit-cases M (λ (out : List (M .State)). Begins (s ∷ []) out) f [] s
+    (λ e. absurd (false≢true e))
+    (λ e q. begins-refl (s ∷ []))
+    (λ e q. ways-extend M (visit M f) (visit-extends M f) (s ∷ []) s)
 
 -- No state is met twice.
 
