@@ -1,2 +1,7 @@
 pub mod Machines
 pub mod Placing
+pub mod Lawful
+pub mod Visited
+pub mod Places
+pub mod Reaching
+pub mod Records

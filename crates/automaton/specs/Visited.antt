@@ -1,0 +1,161 @@
+-- The states met only grow, no state is met twice, and each visit is a derivation without fuel.
+--   Visits M met s news   meeting s after met adds news
+use Prim.Native.Nat.{ℕ, zero, suc, _+_, _≤_, _<_}
+use native.Mathlib.Omega.{arith}
+use native.Mathlib.Nat.{not-suc-le-zero}
+use mathlib.Core.Path.{_≡_, refl, sym, ap, _∙_, subst}
+use mathlib.Core.Bool.{Bool, true, false, cond, _||_, false≢true}
+use mathlib.Core.Logic.{_⊎_, inl, inr}
+use mathlib.Core.List.{List, [], _∷_, _++_, append-assoc, append-nil, List·Memᴰ, Memᴰ·append-left, List·Memᴰ·append-cases, List·Memᴰ·eq-of-singleton}
+use Rattle.residue.specs.declared.Outcome.{Outcome}
+use Rattle.residue.specs.declared.Outcome.the-variants.{Holds, Fails, Absent}
+use Rattle.automaton.specs.Machines.{Machine, meets, placeOf, visit, visitWays}
+use Rattle.automaton.specs.Lawful.{Lawful, Each, Begins, Apart, apart-none, apart-more, Distinct, distinct-none, distinct-more}
+
+pub data Visits (M : Machine) : List (M .State) → M .State → List (M .State) → Type 0 where
+  old : {met : List (M .State)} {s : M .State} → meets M met s ≡ true → Visits M met s []
+  final : {met : List (M .State)} {s : M .State} → meets M met s ≡ false → M .asks s ≡ false → Visits M met s (s ∷ [])
+  asking : {met a b c : List (M .State)} {s : M .State} → meets M met s ≡ false → M .asks s ≡ true
+    → Visits M (met ++ s ∷ []) (M .step Holds s) a
+    → Visits M (met ++ s ∷ [] ++ a) (M .step Fails s) b
+    → Visits M (met ++ s ∷ [] ++ a ++ b) (M .step Absent s) c
+    → Visits M met s (s ∷ (a ++ b ++ c))
+
+-- A visit, case by case.
+
+visit-old : (M : Machine) (f : ℕ) (met : List (M .State)) (s : M .State) → meets M met s ≡ true → visit M (suc f) met s ≡ met
+unfolding visit
+visit-old M f met s e = rw (e, visit)
+
+visit-final : (M : Machine) (f : ℕ) (met : List (M .State)) (s : M .State) → meets M met s ≡ false → M .asks s ≡ false
+    → visit M (suc f) met s ≡ met ++ s ∷ []
+unfolding visit
+visit-final M f met s e q = rw (e, visit, q)
+
+visit-asking : (M : Machine) (f : ℕ) (met : List (M .State)) (s : M .State) → meets M met s ≡ false → M .asks s ≡ true
+    → visit M (suc f) met s ≡ visitWays M (visit M f) (met ++ s ∷ []) s
+unfolding visit
+visit-asking M f met s e q = rw (e, visit, q)
+
+-- P of a visit, where it keeps what it has met, adds a state, and goes three ways.
+visit-cases : (M : Machine) (P : List (M .State) → Type 0) (f : ℕ) (met : List (M .State)) (s : M .State)
+    → (meets M met s ≡ true → P met)
+    → (meets M met s ≡ false → M .asks s ≡ false → P (met ++ s ∷ []))
+    → (meets M met s ≡ false → M .asks s ≡ true → P (visitWays M (visit M f) (met ++ s ∷ []) s))
+    → P (visit M (suc f) met s)
+visit-cases M P f met s old-case final-case asking-case = go (meets M met s) (M .asks s) refl refl
+  where
+    go : (b q : Bool) → meets M met s ≡ b → M .asks s ≡ q → P (visit M (suc f) met s)
+    go true q e eq = rw (visit-old M f met s e) (old-case e)
+    go false true e eq = rw (visit-asking M f met s e eq) (asking-case e eq)
+    go false false e eq = rw (visit-final M f met s e eq) (final-case e eq)
+
+-- A list that begins another.
+
+pub begins-refl : {A : Type 0} (l : List A) → Begins l l
+begins-refl l = record { rest = []; grown = sym (append-nil l) }
+
+pub begins-append : {A : Type 0} (l more : List A) → Begins l (l ++ more)
+begins-append l more = record { rest = more; grown = refl }
+
+pub begins-trans : {A : Type 0} {a b c : List A} → Begins a b → Begins b c → Begins a c
+begins-trans {A} {a} {b} {c} p q =
+    record { rest = p .rest ++ q .rest; grown = q .grown ∙ rw (p .grown) (append-assoc a (p .rest) (q .rest)) }
+
+pub begins-mem : {A : Type 0} {a b : List A} {x : A} → Begins a b → List·Memᴰ x a → List·Memᴰ x b
+begins-mem {A} {a} {b} {x} p m = subst (λ (l : List A). List·Memᴰ x l) (sym (p .grown)) (Memᴰ·append-left (p .rest) m)
+
+-- What is met stays met, in its place.
+
+ways-extend : (M : Machine) (next : List (M .State) → M .State → List (M .State)) → ((met : List (M .State)) (s : M .State) → Begins met (next met s))
+    → (met : List (M .State)) (s : M .State) → Begins met (visitWays M next met s)
+unfolding visitWays
+ways-extend M next extends met s =
+    begins-trans (extends met (M .step Holds s)) (begins-trans (extends _ (M .step Fails s)) (extends _ (M .step Absent s)))
+
+pub visit-extends : (M : Machine) (f : ℕ) (met : List (M .State)) (s : M .State) → Begins met (visit M f met s)
+unfolding visit
+visit-extends M zero met s = begins-refl met
+visit-extends M (suc f) met s =
+    visit-cases M (λ (out : List (M .State)). Begins met out) f met s
+    (λ e. begins-refl met)
+    (λ e q. begins-append met (s ∷ []))
+    (λ e q. begins-trans (begins-append met (s ∷ [])) (ways-extend M (visit M f) (λ met s. visit-extends M f met s) (met ++ s ∷ []) s))
+
+-- The start is the first state.
+pub visit-start : (M : Machine) (f : ℕ) (s : M .State) → Begins (s ∷ []) (visit M (suc f) [] s)
+unfolding meets
+visit-start M f s =
+    visit-cases M (λ (out : List (M .State)). Begins (s ∷ []) out) f [] s
+    (λ e. absurd (false≢true e))
+    (λ e q. begins-refl (s ∷ []))
+    (λ e q. ways-extend M (visit M f) (visit-extends M f) (s ∷ []) s)
+
+-- No state is met twice.
+
+apart-append : (M : Machine) (x s : M .State) {l : List (M .State)} → Apart M x l → M .same x s ≡ false → Apart M x (l ++ s ∷ [])
+apart-append M x s apart-none e = apart-more e apart-none
+apart-append M x s (apart-more d ds) e = apart-more d (apart-append M x s ds e)
+
+or-false-l : (a b : Bool) → (a || b) ≡ false → a ≡ false
+or-false-l true b e = e
+or-false-l false b e = refl
+
+or-false-r : (a b : Bool) → (a || b) ≡ false → b ≡ false
+or-false-r true b e = absurd (false≢true (sym e))
+or-false-r false b e = e
+
+pub distinct-append : (M : Machine) (s : M .State) {l : List (M .State)} → Distinct M l → meets M l s ≡ false → Distinct M (l ++ s ∷ [])
+unfolding meets
+distinct-append M s distinct-none e = distinct-more apart-none distinct-none
+distinct-append M s (distinct-more {x = x} {xs = xs} a d) e =
+    distinct-more (apart-append M x s a (or-false-l _ (meets M xs s) e)) (distinct-append M s d (or-false-r (M .same x s) _ e))
+
+pub visit-distinct : (M : Machine) (f : ℕ) (met : List (M .State)) (s : M .State) → Distinct M met → Distinct M (visit M f met s)
+unfolding visit visitWays
+visit-distinct M zero met s d = d
+visit-distinct M (suc f) met s d =
+    visit-cases M (λ (out : List (M .State)). Distinct M out) f met s
+    (λ e. d)
+    (λ e q. distinct-append M s d e)
+    (λ e q. visit-distinct M f _ (M .step Absent s)
+            (visit-distinct M f _ (M .step Fails s) (visit-distinct M f _ (M .step Holds s) (distinct-append M s d e))))
+
+-- With enough fuel a visit is a derivation.
+
+pub record Visit (M : Machine) (f : ℕ) (met : List (M .State)) (s : M .State) : Type 0 where
+  pub news : List (M .State)
+  pub out : visit M f met s ≡ met ++ news
+  pub way : Visits M met s news
+
+pub three-ways : {A : Type 0} (met : List A) (s : A) (a b c : List A) → met ++ s ∷ [] ++ a ++ b ++ c ≡ met ++ s ∷ (a ++ b ++ c)
+three-ways met s a b c = simp append-assoc
+
+visit-three : (M : Machine) (f : ℕ) (met : List (M .State)) (s : M .State) (a b c : List (M .State)) → meets M met s ≡ false → M .asks s ≡ true
+    → visit M f (met ++ s ∷ []) (M .step Holds s) ≡ met ++ s ∷ [] ++ a
+    → visit M f (met ++ s ∷ [] ++ a) (M .step Fails s) ≡ met ++ s ∷ [] ++ a ++ b
+    → visit M f (met ++ s ∷ [] ++ a ++ b) (M .step Absent s) ≡ met ++ s ∷ [] ++ a ++ b ++ c
+    → visit M (suc f) met s ≡ met ++ s ∷ (a ++ b ++ c)
+unfolding visitWays
+visit-three M f met s a b c e eq p q r = visit-asking M f met s e eq ∙ ways
+  where
+    ways : visitWays M (visit M f) (met ++ s ∷ []) s ≡ met ++ s ∷ (a ++ b ++ c)
+    ways = rw (p, q, r) (three-ways met s a b c)
+
+module _ {M : Machine} {Good : M .State → Type 0} {left : M .State → ℕ} (law : Lawful M Good left) where
+  pub visit-visits : (f : ℕ) (met : List (M .State)) (s : M .State) → Good s → left s < f → Visit M f met s
+  visit-visits zero met s g h = absurd (not-suc-le-zero h)
+  visit-visits (suc f) met s g h = go (λ met s g h. visit-visits f met s g h) (meets M met s) (M .asks s) refl refl
+    where
+      go : ((met : List (M .State)) (s : M .State) → Good s → left s < f → Visit M f met s)
+        → (b q : Bool) → meets M met s ≡ b → M .asks s ≡ q → Visit M (suc f) met s
+      go below true q e eq = record { news = []; out = visit-old M f met s e ∙ sym (append-nil met); way = old e }
+      go below false false e eq = record { news = s ∷ []; out = visit-final M f met s e eq; way = final e eq }
+      go below false true e eq =
+          let fell : (o : Outcome) → left (M .step o s) < f = λ o. omega (arith, law .falls o s g eq) in
+          let h1 = below (met ++ s ∷ []) (M .step Holds s) (law .good-step Holds s g eq) (fell Holds) in
+          let h2 = below (met ++ s ∷ [] ++ h1 .news) (M .step Fails s) (law .good-step Fails s g eq) (fell Fails) in
+          let h3 = below (met ++ s ∷ [] ++ h1 .news ++ h2 .news) (M .step Absent s) (law .good-step Absent s g eq) (fell Absent) in
+          record { news = s ∷ (h1 .news ++ h2 .news ++ h3 .news);
+                   out = visit-three M f met s (h1 .news) (h2 .news) (h3 .news) e eq (h1 .out) (h2 .out) (h3 .out);
+                   way = asking e eq (h1 .way) (h2 .way) (h3 .way) }
