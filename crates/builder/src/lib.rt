@@ -5,3 +5,22 @@ pub enum Built {
     States(u32),
     Refused(u32, u32),
 }
+
+// What placing states comes to: so many slots used, or a new state that found none.
+pub enum Room {
+    Used(usize),
+    Full,
+}
+
+// Where a state stands among those met.
+pub enum Found {
+    At(usize),
+    Nothing,
+}
+
+// What meeting a state comes to: it stands at a place already, it is new and now stored, or it is new and no slot is left.
+pub enum Met {
+    Old(usize),
+    New,
+    Full,
+}
