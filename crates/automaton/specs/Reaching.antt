@@ -9,9 +9,9 @@ use mathlib.Core.List.{List, [], _∷_, _++_, append-nil, List·Memᴰ, List·Me
 use lib.ListN.{length, getD}
 use Rattle.residue.specs.declared.Outcome.{Outcome}
 use Rattle.residue.specs.declared.Outcome.the-variants.{Holds, Fails, Absent}
-use Rattle.automaton.specs.Machines.{Machine, meets, placeOf, visit}
+use Rattle.automaton.specs.Machines.{Machine, meets, placeOf, visit, visitWays}
 use Rattle.automaton.specs.Lawful.{Lawful, Reached, start, further, Each, Begins, Distinct, distinct-none}
-use Rattle.automaton.specs.Visited.{Visits, old, final, asking, Visit, visit-visits, three-ways, visit-start, visit-distinct}
+use Rattle.automaton.specs.Visited.{Visits, old, final, asking, Visit, visit-visits, three-ways, visit-cases, visit-start, visit-distinct}
 use Rattle.automaton.specs.Places.{getD-mem, mem-meets, meets-mem, meets-nil, place-new, place-state, place-getD}
 
 pub record Explored (M : Machine) (met : List (M .State)) (s : M .State) (news : List (M .State)) : Type 0 where
@@ -51,6 +51,19 @@ module _ {M : Machine} {Good : M .State → Type 0} {left : M .State → ℕ} (l
 
   pub visits-good : {met news : List (M .State)} {s : M .State} → Visits M met s news → Each Good met → Good s → Each Good (met ++ news)
   visits-good {met} {news} v good g = each-append met news good (λ t m. reached-good g (visits-reached v t m))
+
+  -- The same with any fuel.
+  pub visit-good : (f : ℕ) (met : List (M .State)) (s : M .State) → Each Good met → Good s → Each Good (visit M f met s)
+  unfolding visit visitWays
+  visit-good zero met s good g = good
+  visit-good (suc f) met s good g =
+      let good1 = each-append met (s ∷ []) good (each-cons g (each-nil Good)) in
+      visit-cases M (λ (out : List (M .State)). Each Good out) f met s
+      (λ e. good)
+      (λ e q. good1)
+      (λ e q. visit-good f _ (M .step Absent s)
+              (visit-good f _ (M .step Fails s) (visit-good f _ (M .step Holds s) good1 (law .good-step Holds s g q)) (law .good-step Fails s g q))
+              (law .good-step Absent s g q))
 
   visits-has : (met a b c : List (M .State)) (s : M .State) (o : Outcome) → Explored M (met ++ s ∷ []) (M .step Holds s) a
       → Explored M (met ++ s ∷ [] ++ a) (M .step Fails s) b → Explored M (met ++ s ∷ [] ++ a ++ b) (M .step Absent s) c

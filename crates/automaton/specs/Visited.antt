@@ -23,22 +23,22 @@ pub data Visits (M : Machine) : List (M .State) → M .State → List (M .State)
 
 -- A visit, case by case.
 
-visit-old : (M : Machine) (f : ℕ) (met : List (M .State)) (s : M .State) → meets M met s ≡ true → visit M (suc f) met s ≡ met
+pub visit-old : (M : Machine) (f : ℕ) (met : List (M .State)) (s : M .State) → meets M met s ≡ true → visit M (suc f) met s ≡ met
 unfolding visit
 visit-old M f met s e = rw (e, visit)
 
-visit-final : (M : Machine) (f : ℕ) (met : List (M .State)) (s : M .State) → meets M met s ≡ false → M .asks s ≡ false
+pub visit-final : (M : Machine) (f : ℕ) (met : List (M .State)) (s : M .State) → meets M met s ≡ false → M .asks s ≡ false
     → visit M (suc f) met s ≡ met ++ s ∷ []
 unfolding visit
 visit-final M f met s e q = rw (e, visit, q)
 
-visit-asking : (M : Machine) (f : ℕ) (met : List (M .State)) (s : M .State) → meets M met s ≡ false → M .asks s ≡ true
+pub visit-asking : (M : Machine) (f : ℕ) (met : List (M .State)) (s : M .State) → meets M met s ≡ false → M .asks s ≡ true
     → visit M (suc f) met s ≡ visitWays M (visit M f) (met ++ s ∷ []) s
 unfolding visit
 visit-asking M f met s e q = rw (e, visit, q)
 
 -- P of a visit, where it keeps what it has met, adds a state, and goes three ways.
-visit-cases : (M : Machine) (P : List (M .State) → Type 0) (f : ℕ) (met : List (M .State)) (s : M .State)
+pub visit-cases : (M : Machine) (P : List (M .State) → Type 0) (f : ℕ) (met : List (M .State)) (s : M .State)
     → (meets M met s ≡ true → P met)
     → (meets M met s ≡ false → M .asks s ≡ false → P (met ++ s ∷ []))
     → (meets M met s ≡ false → M .asks s ≡ true → P (visitWays M (visit M f) (met ++ s ∷ []) s))
