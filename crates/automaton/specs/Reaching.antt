@@ -32,7 +32,7 @@ pub each-nil : {A : Type 0} (P : A → Type 0) → Each P []
 each-nil P x m = absurd (List·Memᴰ·not-nil m)
 
 -- What a visit adds is reached from its state.
-pub visits-reached : {M : Machine} {met news : List (M .State)} {s : M .State} → Visits M met s news → Each (Reached M s) news
+pub visits-reached : {M : Machine} {f : ℕ} {met news : List (M .State)} {s : M .State} → Visits M f met s news → Each (Reached M s) news
 visits-reached {M} {s} (old e) = each-nil (Reached M s)
 visits-reached {M} {s} (final e q) = each-cons start (each-nil (Reached M s))
 visits-reached {M} (asking {a = a} {b = b} {c = c} {s = s} e q v w z) =
@@ -49,7 +49,7 @@ module _ {M : Machine} {Good : M .State → Type 0} {left : M .State → ℕ} (l
   reached-good g start = g
   reached-good g (further {t = t} o r q) = law .good-step o t (reached-good g r) q
 
-  pub visits-good : {met news : List (M .State)} {s : M .State} → Visits M met s news → Each Good met → Good s → Each Good (met ++ news)
+  pub visits-good : {f : ℕ} {met news : List (M .State)} {s : M .State} → Visits M f met s news → Each Good met → Good s → Each Good (met ++ news)
   visits-good {met} {news} v good g = each-append met news good (λ t m. reached-good g (visits-reached v t m))
 
   -- The same with any fuel.
@@ -88,7 +88,7 @@ module _ {M : Machine} {Good : M .State → Type 0} {left : M .State → ℕ} (l
       (List·Memᴰ·cases-cons m)
 
   -- What a visit adds has all its ways met.
-  pub visits-explored : {met news : List (M .State)} {s : M .State} → Visits M met s news → Each Good met → Good s → Explored M met s news
+  pub visits-explored : {f : ℕ} {met news : List (M .State)} {s : M .State} → Visits M f met s news → Each Good met → Good s → Explored M met s news
   visits-explored {met} {s} (old e) good g =
       record { has = Memᴰ·append-left [] (meets-mem law met s good e); closed = λ o t m q. absurd (List·Memᴰ·not-nil m) }
   visits-explored {met} {s} (final e n) good g =
