@@ -6,3 +6,4 @@ pub mod Places
 pub mod Reaching
 pub mod Records
 pub mod Carrying
+pub mod Placed
