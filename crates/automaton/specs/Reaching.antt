@@ -9,9 +9,9 @@ use mathlib.Core.List.{List, [], _∷_, _++_, append-nil, List·Memᴰ, List·Me
 use lib.ListN.{length, getD}
 use Rattle.residue.specs.declared.Outcome.{Outcome}
 use Rattle.residue.specs.declared.Outcome.the-variants.{Holds, Fails, Absent}
-use Rattle.automaton.specs.Machines.{Machine, meets, placeOf, visit}
+use Rattle.automaton.specs.Machines.{Machine, meets, placeOf, visit, visitWays}
 use Rattle.automaton.specs.Lawful.{Lawful, Reached, start, further, Each, Begins, Distinct, distinct-none}
-use Rattle.automaton.specs.Visited.{Visits, old, final, asking, Visit, visit-visits, three-ways, visit-start, visit-distinct}
+use Rattle.automaton.specs.Visited.{Visits, old, final, asking, Visit, visit-visits, three-ways, visit-cases, visit-start, visit-distinct}
 use Rattle.automaton.specs.Places.{getD-mem, mem-meets, meets-mem, meets-nil, place-new, place-state, place-getD}
 
 pub record Explored (M : Machine) (met : List (M .State)) (s : M .State) (news : List (M .State)) : Type 0 where
@@ -32,7 +32,7 @@ pub each-nil : {A : Type 0} (P : A → Type 0) → Each P []
 each-nil P x m = absurd (List·Memᴰ·not-nil m)
 
 -- What a visit adds is reached from its state.
-pub visits-reached : {M : Machine} {met news : List (M .State)} {s : M .State} → Visits M met s news → Each (Reached M s) news
+pub visits-reached : {M : Machine} {f : ℕ} {met news : List (M .State)} {s : M .State} → Visits M f met s news → Each (Reached M s) news
 visits-reached {M} {s} (old e) = each-nil (Reached M s)
 visits-reached {M} {s} (final e q) = each-cons start (each-nil (Reached M s))
 visits-reached {M} (asking {a = a} {b = b} {c = c} {s = s} e q v w z) =
@@ -49,8 +49,21 @@ module _ {M : Machine} {Good : M .State → Type 0} {left : M .State → ℕ} (l
   reached-good g start = g
   reached-good g (further {t = t} o r q) = law .good-step o t (reached-good g r) q
 
-  pub visits-good : {met news : List (M .State)} {s : M .State} → Visits M met s news → Each Good met → Good s → Each Good (met ++ news)
+  pub visits-good : {f : ℕ} {met news : List (M .State)} {s : M .State} → Visits M f met s news → Each Good met → Good s → Each Good (met ++ news)
   visits-good {met} {news} v good g = each-append met news good (λ t m. reached-good g (visits-reached v t m))
+
+  -- The same with any fuel.
+  pub visit-good : (f : ℕ) (met : List (M .State)) (s : M .State) → Each Good met → Good s → Each Good (visit M f met s)
+  unfolding visit visitWays
+  visit-good zero met s good g = good
+  visit-good (suc f) met s good g =
+      let good1 = each-append met (s ∷ []) good (each-cons g (each-nil Good)) in
+      visit-cases M (λ (out : List (M .State)). Each Good out) f met s
+      (λ e. good)
+      (λ e q. good1)
+      (λ e q. visit-good f _ (M .step Absent s)
+              (visit-good f _ (M .step Fails s) (visit-good f _ (M .step Holds s) good1 (law .good-step Holds s g q)) (law .good-step Fails s g q))
+              (law .good-step Absent s g q))
 
   visits-has : (met a b c : List (M .State)) (s : M .State) (o : Outcome) → Explored M (met ++ s ∷ []) (M .step Holds s) a
       → Explored M (met ++ s ∷ [] ++ a) (M .step Fails s) b → Explored M (met ++ s ∷ [] ++ a ++ b) (M .step Absent s) c
@@ -75,7 +88,7 @@ module _ {M : Machine} {Good : M .State → Type 0} {left : M .State → ℕ} (l
       (List·Memᴰ·cases-cons m)
 
   -- What a visit adds has all its ways met.
-  pub visits-explored : {met news : List (M .State)} {s : M .State} → Visits M met s news → Each Good met → Good s → Explored M met s news
+  pub visits-explored : {f : ℕ} {met news : List (M .State)} {s : M .State} → Visits M f met s news → Each Good met → Good s → Explored M met s news
   visits-explored {met} {s} (old e) good g =
       record { has = Memᴰ·append-left [] (meets-mem law met s good e); closed = λ o t m q. absurd (List·Memᴰ·not-nil m) }
   visits-explored {met} {s} (final e n) good g =

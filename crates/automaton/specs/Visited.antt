@@ -1,5 +1,6 @@
--- The states met only grow, no state is met twice, and each visit is a derivation without fuel.
---   Visits M met s news   meeting s after met adds news
+-- The states met only grow, no state is met twice, and each visit is a derivation.
+--   Visits M f met s news   meeting s after met adds news; at most f questions follow one another
+--   Visit M f met s         the derivation of visit M f met s
 use Prim.Native.Nat.{ℕ, zero, suc, _+_, _≤_, _<_}
 use native.Mathlib.Omega.{arith}
 use native.Mathlib.Nat.{not-suc-le-zero}
@@ -12,33 +13,39 @@ use Rattle.residue.specs.declared.Outcome.the-variants.{Holds, Fails, Absent}
 use Rattle.automaton.specs.Machines.{Machine, meets, placeOf, visit, visitWays}
 use Rattle.automaton.specs.Lawful.{Lawful, Each, Begins, Apart, apart-none, apart-more, Distinct, distinct-none, distinct-more}
 
-pub data Visits (M : Machine) : List (M .State) → M .State → List (M .State) → Type 0 where
-  old : {met : List (M .State)} {s : M .State} → meets M met s ≡ true → Visits M met s []
-  final : {met : List (M .State)} {s : M .State} → meets M met s ≡ false → M .asks s ≡ false → Visits M met s (s ∷ [])
-  asking : {met a b c : List (M .State)} {s : M .State} → meets M met s ≡ false → M .asks s ≡ true
-    → Visits M (met ++ s ∷ []) (M .step Holds s) a
-    → Visits M (met ++ s ∷ [] ++ a) (M .step Fails s) b
-    → Visits M (met ++ s ∷ [] ++ a ++ b) (M .step Absent s) c
-    → Visits M met s (s ∷ (a ++ b ++ c))
+pub data Visits (M : Machine) : ℕ → List (M .State) → M .State → List (M .State) → Type 0 where
+  old : {f : ℕ} {met : List (M .State)} {s : M .State} → meets M met s ≡ true → Visits M f met s []
+  final : {f : ℕ} {met : List (M .State)} {s : M .State} → meets M met s ≡ false → M .asks s ≡ false → Visits M f met s (s ∷ [])
+  asking : {f : ℕ} {met a b c : List (M .State)} {s : M .State} → meets M met s ≡ false → M .asks s ≡ true
+    → Visits M f (met ++ s ∷ []) (M .step Holds s) a
+    → Visits M f (met ++ s ∷ [] ++ a) (M .step Fails s) b
+    → Visits M f (met ++ s ∷ [] ++ a ++ b) (M .step Absent s) c
+    → Visits M (suc f) met s (s ∷ (a ++ b ++ c))
+
+pub record Visit (M : Machine) (f : ℕ) (met : List (M .State)) (s : M .State) : Type 0 where
+  pub news : List (M .State)
+  pub out : visit M f met s ≡ met ++ news
+  pub depth : ℕ
+  pub way : Visits M depth met s news
 
 -- A visit, case by case.
 
-visit-old : (M : Machine) (f : ℕ) (met : List (M .State)) (s : M .State) → meets M met s ≡ true → visit M (suc f) met s ≡ met
+pub visit-old : (M : Machine) (f : ℕ) (met : List (M .State)) (s : M .State) → meets M met s ≡ true → visit M (suc f) met s ≡ met
 unfolding visit
 visit-old M f met s e = rw (e, visit)
 
-visit-final : (M : Machine) (f : ℕ) (met : List (M .State)) (s : M .State) → meets M met s ≡ false → M .asks s ≡ false
+pub visit-final : (M : Machine) (f : ℕ) (met : List (M .State)) (s : M .State) → meets M met s ≡ false → M .asks s ≡ false
     → visit M (suc f) met s ≡ met ++ s ∷ []
 unfolding visit
 visit-final M f met s e q = rw (e, visit, q)
 
-visit-asking : (M : Machine) (f : ℕ) (met : List (M .State)) (s : M .State) → meets M met s ≡ false → M .asks s ≡ true
+pub visit-asking : (M : Machine) (f : ℕ) (met : List (M .State)) (s : M .State) → meets M met s ≡ false → M .asks s ≡ true
     → visit M (suc f) met s ≡ visitWays M (visit M f) (met ++ s ∷ []) s
 unfolding visit
 visit-asking M f met s e q = rw (e, visit, q)
 
 -- P of a visit, where it keeps what it has met, adds a state, and goes three ways.
-visit-cases : (M : Machine) (P : List (M .State) → Type 0) (f : ℕ) (met : List (M .State)) (s : M .State)
+pub visit-cases : (M : Machine) (P : List (M .State) → Type 0) (f : ℕ) (met : List (M .State)) (s : M .State)
     → (meets M met s ≡ true → P met)
     → (meets M met s ≡ false → M .asks s ≡ false → P (met ++ s ∷ []))
     → (meets M met s ≡ false → M .asks s ≡ true → P (visitWays M (visit M f) (met ++ s ∷ []) s))
@@ -121,12 +128,7 @@ visit-distinct M (suc f) met s d =
     (λ e q. visit-distinct M f _ (M .step Absent s)
             (visit-distinct M f _ (M .step Fails s) (visit-distinct M f _ (M .step Holds s) (distinct-append M s d e))))
 
--- With enough fuel a visit is a derivation.
-
-pub record Visit (M : Machine) (f : ℕ) (met : List (M .State)) (s : M .State) : Type 0 where
-  pub news : List (M .State)
-  pub out : visit M f met s ≡ met ++ news
-  pub way : Visits M met s news
+-- A derivation tells what a visit adds, and with enough fuel there is one.
 
 pub three-ways : {A : Type 0} (met : List A) (s : A) (a b c : List A) → met ++ s ∷ [] ++ a ++ b ++ c ≡ met ++ s ∷ (a ++ b ++ c)
 three-ways met s a b c = simp append-assoc
@@ -137,25 +139,40 @@ visit-three : (M : Machine) (f : ℕ) (met : List (M .State)) (s : M .State) (a 
     → visit M f (met ++ s ∷ [] ++ a ++ b) (M .step Absent s) ≡ met ++ s ∷ [] ++ a ++ b ++ c
     → visit M (suc f) met s ≡ met ++ s ∷ (a ++ b ++ c)
 unfolding visitWays
-visit-three M f met s a b c e eq p q r = visit-asking M f met s e eq ∙ ways
+visit-three M f met s a b c e q v w z = visit-asking M f met s e q ∙ ways
   where
     ways : visitWays M (visit M f) (met ++ s ∷ []) s ≡ met ++ s ∷ (a ++ b ++ c)
-    ways = rw (p, q, r) (three-ways met s a b c)
+    ways = rw (v, w, z) (three-ways met s a b c)
+
+pub visits-visit : {M : Machine} {f : ℕ} {met news : List (M .State)} {s : M .State} → Visits M f met s news → visit M (suc f) met s ≡ met ++ news
+visits-visit {M} {f} {met} {s} (old e) = visit-old M f met s e ∙ sym (append-nil met)
+visits-visit {M} {f} {met} {s} (final e q) = visit-final M f met s e q
+visits-visit {M} {met} {s} (asking {f = f} {a = a} {b = b} {c = c} e q v w z) =
+    visit-three M (suc f) met s a b c e q (visits-visit v) (visits-visit w) (visits-visit z)
 
 module _ {M : Machine} {Good : M .State → Type 0} {left : M .State → ℕ} (law : Lawful M Good left) where
+  pub visits-exist : (f : ℕ) (met : List (M .State)) (s : M .State) → Good s → left s < suc f → (news : List (M .State)) × Visits M f met s news
+  visits-exist zero met s g h = go (meets M met s) (M .asks s) refl refl
+    where
+      go : (b q : Bool) → meets M met s ≡ b → M .asks s ≡ q → (news : List (M .State)) × Visits M zero met s news
+      go true q e eq = ([], old e)
+      go false false e eq = (s ∷ [], final e eq)
+      go false true e eq = absurd (omega (arith, law .falls Holds s g eq))
+  visits-exist (suc f) met s g h = go (λ met s g h. visits-exist f met s g h) (meets M met s) (M .asks s) refl refl
+    where
+      go : ((met : List (M .State)) (s : M .State) → Good s → left s < suc f → (news : List (M .State)) × Visits M f met s news)
+        → (b q : Bool) → meets M met s ≡ b → M .asks s ≡ q → (news : List (M .State)) × Visits M (suc f) met s news
+      go below true q e eq = ([], old e)
+      go below false false e eq = (s ∷ [], final e eq)
+      go below false true e eq =
+          let fell : (o : Outcome) → left (M .step o s) < suc f = λ o. omega (arith, law .falls o s g eq) in
+          let v = below (met ++ s ∷ []) (M .step Holds s) (law .good-step Holds s g eq) (fell Holds) in
+          let w = below (met ++ s ∷ [] ++ v .0) (M .step Fails s) (law .good-step Fails s g eq) (fell Fails) in
+          let z = below (met ++ s ∷ [] ++ v .0 ++ w .0) (M .step Absent s) (law .good-step Absent s g eq) (fell Absent) in
+          (s ∷ (v .0 ++ w .0 ++ z .0), asking e eq (v .1) (w .1) (z .1))
+
   pub visit-visits : (f : ℕ) (met : List (M .State)) (s : M .State) → Good s → left s < f → Visit M f met s
   visit-visits zero met s g h = absurd (not-suc-le-zero h)
-  visit-visits (suc f) met s g h = go (λ met s g h. visit-visits f met s g h) (meets M met s) (M .asks s) refl refl
-    where
-      go : ((met : List (M .State)) (s : M .State) → Good s → left s < f → Visit M f met s)
-        → (b q : Bool) → meets M met s ≡ b → M .asks s ≡ q → Visit M (suc f) met s
-      go below true q e eq = record { news = []; out = visit-old M f met s e ∙ sym (append-nil met); way = old e }
-      go below false false e eq = record { news = s ∷ []; out = visit-final M f met s e eq; way = final e eq }
-      go below false true e eq =
-          let fell : (o : Outcome) → left (M .step o s) < f = λ o. omega (arith, law .falls o s g eq) in
-          let h1 = below (met ++ s ∷ []) (M .step Holds s) (law .good-step Holds s g eq) (fell Holds) in
-          let h2 = below (met ++ s ∷ [] ++ h1 .news) (M .step Fails s) (law .good-step Fails s g eq) (fell Fails) in
-          let h3 = below (met ++ s ∷ [] ++ h1 .news ++ h2 .news) (M .step Absent s) (law .good-step Absent s g eq) (fell Absent) in
-          record { news = s ∷ (h1 .news ++ h2 .news ++ h3 .news);
-                   out = visit-three M f met s (h1 .news) (h2 .news) (h3 .news) e eq (h1 .out) (h2 .out) (h3 .out);
-                   way = asking e eq (h1 .way) (h2 .way) (h3 .way) }
+  visit-visits (suc f) met s g h =
+      let v = visits-exist f met s g h in
+      record { news = v .0; out = visits-visit (v .1); depth = f; way = v .1 }

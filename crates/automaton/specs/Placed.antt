@@ -1,0 +1,128 @@
+-- The builder places exactly the states met, each with its record, or finds no slot where they are more than the slots.
+--   memory met records  the two lists as a memory
+--   placeNext           placeWay, by the state that the way leads to
+--   Fit M s             what placing asks of a state: it is the same as itself, and its question is four words
+use Prim.Native.Nat.{ℕ, zero, suc, _+_, _≤_, _<_}
+use native.Mathlib.Omega.{arith}
+use native.Mathlib.Nat.{not-suc-le-zero, le-of-suc-le-suc}
+use mathlib.Core.Path.{_≡_, refl, sym, ap, _∙_, subst}
+use mathlib.Core.Bool.{Bool, true, false, cond, false≢true}
+use mathlib.Core.List.{List, [], _∷_, _++_, map, map-append, append-assoc, append-nil}
+use lib.Dec.{leb}
+use lib.ListN.{length, getD, set, length-append, length-map}
+use lib.Seq.{getD-at, set-at}
+use borrow.Author.Tests.{leb-true, leb-false, le-leb, lt-leb}
+use Rattle.residue.specs.declared.Outcome.{Outcome}
+use Rattle.residue.specs.declared.Outcome.the-variants.{Holds, Fails, Absent}
+use Rattle.automaton.specs.Machines.{Machine, meets, placeOf, visit, nextsOf, recordOf}
+use Rattle.automaton.specs.Placing.{Memory, Placed, full, room, nextWord, freshRecord, stored, linked, andThen, placeWay, placeState, placeAll}
+use Rattle.automaton.specs.Lawful.{Lawful, Each, Begins}
+use Rattle.automaton.specs.Visited.{Visits, old, final, asking, visits-exist, visits-visit, three-ways, begins-refl, begins-append, begins-trans}
+use Rattle.automaton.specs.Places.{each-head, each-tail, place-append, place-new}
+
+abbrev pub memory : {M : Machine} → List (M .State) → List (List ℕ) → Memory M
+memory met records = record { met = met; records = records }
+
+unfoldable placeNext : (M : Machine) → ℕ → (ℕ → M .State → Memory M → Placed M) → Outcome → ℕ → M .State → Memory M → Placed M
+placeNext M slots build o at t m =
+    elim (meets M (m .met) t)
+    [ true ↦ room (linked M o at (placeOf M (m .met) t) m)
+    | false ↦ elim (leb slots (length (m .met)))
+              [ true ↦ full
+              | false ↦ andThen M (build (length (m .met)) t (stored M t m)) (λ m'. room (linked M o at (length (m .met)) m')) ] ]
+
+pub record Fit (M : Machine) (s : M .State) : Type 0 where
+  pub itself : M .same s s ≡ true
+  pub four : length (M .question s) ≡ 4
+
+-- A record that gets its next numbers.
+
+linked-at : (M : Machine) (o : Outcome) (at next : ℕ) (met : List (M .State)) (before after : List (List ℕ)) (r : List ℕ) → length before ≡ at
+    → linked M o at next (memory met (before ++ r ∷ after)) ≡ memory met (before ++ set r (nextWord o) next ∷ after)
+unfolding linked
+linked-at M o at next met before after r h = rw (getD-at before r after [] at h, set-at before r after (set r (nextWord o) next) at h)
+
+set-nexts : (q e : List ℕ) (a b c : ℕ) → length q ≡ 4 → set (set (set (q ++ 0 ∷ 0 ∷ 0 ∷ [] ++ e) 4 a) 5 b) 6 c ≡ q ++ a ∷ b ∷ c ∷ [] ++ e
+set-nexts [] e a b c h = absurd (omega arith)
+set-nexts (w ∷ []) e a b c h = absurd (omega arith)
+set-nexts (w ∷ x ∷ []) e a b c h = absurd (omega arith)
+set-nexts (w ∷ x ∷ y ∷ []) e a b c h = absurd (omega arith)
+set-nexts (w ∷ x ∷ y ∷ z ∷ []) e a b c h = refl
+set-nexts (w ∷ x ∷ y ∷ z ∷ v ∷ q) e a b c h = absurd (omega arith)
+
+record-final : (M : Machine) (whole : List (M .State)) (s : M .State) → M .asks s ≡ false → freshRecord M s ≡ recordOf M whole s
+unfolding freshRecord recordOf nextsOf
+record-final M whole s q = rw q
+
+record-asking : (M : Machine) (whole : List (M .State)) (s : M .State) → M .asks s ≡ true → Fit M s
+    → set (set (set (freshRecord M s) (nextWord Holds) (placeOf M whole (M .step Holds s))) (nextWord Fails) (placeOf M whole (M .step Fails s)))
+      (nextWord Absent) (placeOf M whole (M .step Absent s)) ≡ recordOf M whole s
+unfolding freshRecord recordOf nextsOf nextWord
+record-asking M whole s q fit = rw q (set-nexts (M .question s) (M .sets s) _ _ _ (fit .four))
+
+-- One way, case by case.
+
+next-old : (M : Machine) (slots : ℕ) (build : ℕ → M .State → Memory M → Placed M) (o : Outcome) (at : ℕ) (t : M .State) (m : Memory M)
+    → meets M (m .met) t ≡ true → placeNext M slots build o at t m ≡ room (linked M o at (placeOf M (m .met) t) m)
+unfolding placeNext
+next-old M slots build o at t m e = rw (e, placeNext)
+
+next-full : (M : Machine) (slots : ℕ) (build : ℕ → M .State → Memory M → Placed M) (o : Outcome) (at : ℕ) (t : M .State) (m : Memory M)
+    → meets M (m .met) t ≡ false → slots ≤ length (m .met) → placeNext M slots build o at t m ≡ full
+unfolding placeNext
+next-full M slots build o at t m e h = rw (e, placeNext, le-leb slots (length (m .met)) h)
+
+next-new : (M : Machine) (slots : ℕ) (build : ℕ → M .State → Memory M → Placed M) (o : Outcome) (at : ℕ) (t : M .State) (m : Memory M)
+    → meets M (m .met) t ≡ false → length (m .met) < slots
+    → placeNext M slots build o at t m
+      ≡ andThen M (build (length (m .met)) t (stored M t m)) (λ m'. room (linked M o at (length (m .met)) m'))
+unfolding placeNext
+next-new M slots build o at t m e h = rw (e, placeNext, lt-leb slots (length (m .met)) h)
+
+-- The ways of a state, case by case.
+
+state-final : (M : Machine) (slots f at : ℕ) (s : M .State) (m : Memory M) → M .asks s ≡ false → placeState M slots f at s m ≡ room m
+unfolding placeState
+state-final M slots zero at s m q = refl
+state-final M slots (suc f) at s m q = rw (q, placeState)
+
+state-asking : (M : Machine) (slots f at : ℕ) (s : M .State) (m : Memory M) → M .asks s ≡ true
+    → placeState M slots (suc f) at s m
+      ≡ andThen M (placeNext M slots (placeState M slots f) Holds at (M .step Holds s) m)
+        (λ m₁. andThen M (placeNext M slots (placeState M slots f) Fails at (M .step Fails s) m₁)
+        (λ m₂. placeNext M slots (placeState M slots f) Absent at (M .step Absent s) m₂))
+unfolding placeState placeWay placeNext
+state-asking M slots f at s m q = rw (q, placeState)
+
+state-full : (M : Machine) (slots f at : ℕ) (s : M .State) (m : Memory M) → M .asks s ≡ true
+    → placeNext M slots (placeState M slots f) Holds at (M .step Holds s) m ≡ full
+    → placeState M slots (suc f) at s m ≡ full
+unfolding andThen
+state-full M slots f at s m q v = rw (state-asking M slots f at s m q, v)
+
+state-room-full : (M : Machine) (slots f at : ℕ) (s : M .State) (m m₁ : Memory M) → M .asks s ≡ true
+    → placeNext M slots (placeState M slots f) Holds at (M .step Holds s) m ≡ room m₁
+    → placeNext M slots (placeState M slots f) Fails at (M .step Fails s) m₁ ≡ full
+    → placeState M slots (suc f) at s m ≡ full
+unfolding andThen
+state-room-full M slots f at s m m₁ q v w = rw (state-asking M slots f at s m q, v, w)
+
+state-rooms : (M : Machine) (slots f at : ℕ) (s : M .State) (m m₁ m₂ : Memory M) (p : Placed M) → M .asks s ≡ true
+    → placeNext M slots (placeState M slots f) Holds at (M .step Holds s) m ≡ room m₁
+    → placeNext M slots (placeState M slots f) Fails at (M .step Fails s) m₁ ≡ room m₂
+    → placeNext M slots (placeState M slots f) Absent at (M .step Absent s) m₂ ≡ p
+    → placeState M slots (suc f) at s m ≡ p
+unfolding andThen
+state-rooms M slots f at s m m₁ m₂ p q v w z = rw (state-asking M slots f at s m q, v, w) z
+
+-- A new state that found room, with its record and those behind it.
+new-room : (M : Machine) (slots : ℕ) (build : ℕ → M .State → Memory M → Placed M) (o : Outcome) (at : ℕ) (t : M .State)
+    (met out : List (M .State)) (before after behind : List (List ℕ)) (r : List ℕ)
+    → meets M met t ≡ false → length met < slots → length before ≡ at
+    → build (length met) t (stored M t (memory met (before ++ r ∷ after))) ≡ room (memory out (before ++ r ∷ after ++ behind))
+    → placeNext M slots build o at t (memory met (before ++ r ∷ after))
+      ≡ room (memory out (before ++ set r (nextWord o) (length met) ∷ (after ++ behind)))
+unfolding andThen
+new-room M slots build o at t met out before after behind r e h hb built =
+    rw (next-new M slots build o at t (memory met (before ++ r ∷ after)) e h, built, append-assoc before (r ∷ after) behind)
+    (ap room (linked-at M o at (length met) out before (after ++ behind) r hb))
