@@ -1,2 +1,5 @@
 pub mod States
 pub mod Runs
+pub mod Assumed
+pub mod Dividing
+pub mod Standings
