@@ -3,3 +3,5 @@ pub mod Runs
 pub mod Assumed
 pub mod Dividing
 pub mod Standings
+pub mod Well
+pub mod Measure
