@@ -5,3 +5,4 @@ pub mod Dividing
 pub mod Standings
 pub mod Well
 pub mod Measure
+pub mod Truth

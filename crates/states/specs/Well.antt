@@ -18,7 +18,7 @@ use Rattle.residue.specs.declared.Residue.{Residue}
 use Rattle.residue.specs.declared.Residue.the-variants.{True, False, Left}
 use Rattle.fields.specs.Widths.{full, fieldCount}
 use Rattle.lists.specs.Filters.{Item, Filter}
-use Rattle.states.specs.States.{Standing, out, left, State, keep, join, cut, cutStanding, beaten, closedFrom, closed, allLeft, start, Question, nothing, ask, questionOf, stepBy, stepAt, step}
+use Rattle.states.specs.States.{Standing, out, left, State, standing, keep, join, cut, cutStanding, beaten, closedFrom, closed, allLeft, start, Question, nothing, ask, questionOf, stepBy, stepAt, step}
 use Rattle.states.specs.Runs.{wayOf, advanceAt, advance, run, follow}
 use Rattle.states.specs.Assumed.{by-cond, both, first, second, wellItem, wellItems, wellFilters}
 use Rattle.states.specs.Dividing.{Dividing, factBy}
@@ -44,6 +44,12 @@ item-test t h = second (ltb (t .field) fieldCount) (wellFormed (full (t .field))
 -- The test of an item on field n, over the width of n.
 pub item-on : (n : ℕ) (t : Item) → eqb (t .field) n ≡ true → wellItem t ≡ true → wellFormed (full n) (t .test) ≡ true
 item-on n t e h = subst (λ (m : ℕ). wellFormed (full m) (t .test) ≡ true) (eqb-true (t .field) n e) (item-test t h)
+
+pub well-standing : (s : State) (i : ℕ) → wellState s ≡ true → wellStanding (standing s i) ≡ true
+unfolding wellState wellStanding
+well-standing [] i h = refl
+well-standing (x ∷ s) zero h = first (wellStanding x) (wellState s) h
+well-standing (x ∷ s) (suc i) h = well-standing s i (second (wellStanding x) (wellState s) h)
 
 -- ---- the start
 
