@@ -6,3 +6,4 @@ pub mod Standings
 pub mod Well
 pub mod Measure
 pub mod Truth
+pub mod Sure
