@@ -7,3 +7,4 @@ pub mod Well
 pub mod Measure
 pub mod Truth
 pub mod Sure
+pub mod Stays

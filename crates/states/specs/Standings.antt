@@ -10,8 +10,11 @@ use lib.ListN.{length, getD, length-map, List·getD-map, List·getD-eq-default}
 use Rattle.residue.specs.declared.Fact.{Fact}
 use Rattle.residue.specs.declared.Outcome.{Outcome}
 use Rattle.lists.specs.Filters.{Item, Filter}
-use Rattle.lists.specs.Ranks.{noFilter, testsOf}
+use Rattle.sets.specs.Sets.{some}
+use Rattle.sets.specs.Laws.{some-true, some-where}
+use Rattle.lists.specs.Ranks.{testsOf, above}
 use Rattle.states.specs.States.{Standing, out, left, State, standing, isHeld, isOut, cutStanding, beaten, closedFrom, closed, allLeft, start, stepBy}
+use Rattle.states.specs.Assumed.{both, first, second}
 use Rattle.states.specs.Dividing.{factBy}
 
 unfoldable pub divided : Outcome → Item → State → State
@@ -49,6 +52,21 @@ standing-all (f ∷ fs) (suc i) l = standing-all fs i (le-of-suc-le-suc l)
 
 pub standing-beyond : (s : State) (i : ℕ) → length s ≤ i → standing s i ≡ out
 standing-beyond s i l = List·getD-eq-default s out l
+
+-- ---- who is beaten
+
+pub beaten-where : (fs : List Filter) (s : State) (i : ℕ) → beaten fs s i ≡ true → (j : ℕ) × (j < length fs) × (above fs j i ≡ true) × (isHeld (standing s j) ≡ true)
+unfolding beaten
+beaten-where fs s i e =
+    let w = some-where (length fs) (λ j. above fs j i && isHeld (standing s j)) e in
+    let a = above fs (w .0) i in
+    let h = isHeld (standing s (w .0)) in
+    (w .0, w .1, first a h (w .2), second a h (w .2))
+
+pub where-beaten : (fs : List Filter) (s : State) (i j : ℕ) → j < length fs → above fs j i ≡ true → isHeld (standing s j) ≡ true → beaten fs s i ≡ true
+unfolding beaten
+where-beaten fs s i j l a h =
+    some-true (length fs) (λ k. above fs k i && isHeld (standing s k)) j l (both (above fs j i) (isHeld (standing s j)) a h)
 
 -- ---- lengths
 

@@ -24,14 +24,14 @@ use Rattle.states.specs.Well.{none-asked}
 use Rattle.states.specs.Truth.{Says, Tells, held-fires}
 
 -- A test decides.
-by-test : (P : Type 0) (b : Bool) → (b ≡ true → P) → (b ≡ false → P) → P
+pub by-test : (P : Type 0) (b : Bool) → (b ≡ true → P) → (b ≡ false → P) → P
 by-test P true f g = f refl
 by-test P false f g = g refl
 
-clash : {P : Type 0} (b : Bool) → b ≡ true → b ≡ false → P
+pub clash : {P : Type 0} (b : Bool) → b ≡ true → b ≡ false → P
 clash b e z = absurd (false≢true (sym z ∙ e))
 
-not-held-out : (x : Standing) → isHeld x ≡ true → isOut x ≡ false
+pub not-held-out : (x : Standing) → isHeld x ≡ true → isOut x ≡ false
 unfolding isHeld isOut
 not-held-out out e = absurd (false≢true e)
 not-held-out (left ts) e = refl

@@ -21,15 +21,13 @@ use Rattle.residue.specs.declared.Outcome.{Outcome}
 use Rattle.residue.specs.declared.Residue.{Residue}
 use Rattle.residue.specs.declared.Residue.the-variants.{True, False, Left}
 use Rattle.fields.specs.Widths.{full}
-use Rattle.sets.specs.Sets.{some}
-use Rattle.sets.specs.Laws.{some-where}
 use Rattle.lists.specs.Filters.{Item, Filter}
 use Rattle.lists.specs.Ranks.{testsOf, above, allHold, fires}
 use Rattle.states.specs.States.{Standing, out, left, State, standing, isHeld, keep, join, cut, cutStanding, beaten, closed, allLeft, start, Question, nothing, ask, questionOf, stepBy}
 use Rattle.states.specs.Runs.{wayOf, advanceAt, advance, run}
 use Rattle.states.specs.Assumed.{by-cond, first, second, inWidth, wellItem, wellItems, wellFilters}
 use Rattle.states.specs.Dividing.{Dividing, factBy}
-use Rattle.states.specs.Standings.{divided, step-closes, standing-divided, standing-closed, standing-all, standing-beyond}
+use Rattle.states.specs.Standings.{divided, step-closes, standing-divided, standing-closed, standing-all, standing-beyond, beaten-where}
 use Rattle.states.specs.Well.{wellStanding, wellState, well-standing, item-test, item-on, fact-known, well-start, well-question, well-advance}
 
 unfoldable pub holdsIn : (ℕ → Reading) → Standing → Bool
@@ -64,17 +62,11 @@ module _ (fs : List Filter) (r : ℕ → Reading) where
 
   -- ---- closing
 
-  pub beaten-where : (s : State) (i : ℕ) → beaten fs s i ≡ true → (j : ℕ) × (above fs j i ≡ true) × (isHeld (standing s j) ≡ true)
-  unfolding beaten
-  beaten-where s i e =
-      let w = some-where (length fs) (λ j. above fs j i && isHeld (standing s j)) e in
-      (w .0, first (above fs (w .0) i) (isHeld (standing s (w .0))) (w .2), second (above fs (w .0) i) (isHeld (standing s (w .0))) (w .2))
-
   tells-closed : (s : State) → Tells fs r s → Tells fs r (closed fs s)
   tells-closed s t i =
       rw (standing-closed fs s i)
       (by-cond (λ (x : Standing). Says fs r x i) (beaten fs s i)
-      (λ e. let w = beaten-where s i e in inr (w .0, w .1, held-fires s t (w .0) (w .2)))
+      (λ e. let w = beaten-where fs s i e in inr (w .0, w .2, held-fires s t (w .0) (w .3)))
       (λ _. t i))
 
   -- ---- the start
