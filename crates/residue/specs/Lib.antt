@@ -6,4 +6,6 @@ pub mod Choice
 pub mod Bits
 pub mod Lines
 pub mod Sound
+pub mod Questions
+pub mod Narrowing
 pub mod Laws
