@@ -8,4 +8,6 @@ pub mod Lines
 pub mod Sound
 pub mod Questions
 pub mod Narrowing
+pub mod Spent
 pub mod Laws
+pub mod Cases

@@ -1,26 +1,21 @@
--- What is left of a test is the test on some of its bits. So it stays well formed, and a question is never asked twice:
--- whatever it came to, no test that is left asks all of it again, and narrowing keeps that so.
-use Prim.Native.Nat.{ℕ, _+_, _-_, _≤_, _<_}
+-- What is left of a test is the test on some of its bits, and so it is well formed.
+use Prim.Native.Nat.{ℕ, _+_, _-_}
 use mathlib.Core.Path.{_≡_, refl, sym, ap, ap₂, _∙_}
 use mathlib.Core.Bool.{Bool, true, false, not, cond, _&&_, false≢true}
 use native.Mathlib.Omega.{arith}
 use lib.Dec.{eqb, leb, ltb}
-use lib.Bits.{bitAnd, and-comm, and-le-l, and-le-r, and-self}
-use borrow.Author.Tests.{eqb-true, eqb-false, ltb-false, leb-true, leb-false, le-leb, ne-eqb, eq-eqb, not-true}
+use lib.Bits.{bitAnd, and-le-l, and-le-r, and-self}
+use borrow.Author.Tests.{eqb-true, eqb-false, le-leb, ne-eqb, eq-eqb, not-true}
 use Rattle.residue.specs.Tests.{holds, wellMasked, wellFormed}
-use Rattle.residue.specs.Facts.{failsFact, factOf}
 use Rattle.residue.specs.Residues.{outside, settled, reducedEqual, reducedDiffers, fromMasked, fromEqual, covers, fromDiffers, fromAtMost, fromAtLeast, residueBy, wellLeft}
-use Rattle.residue.specs.Relations.{everyLeft, equalOf, differsOf, maskedOf, atMostOf, atLeastOf, sameTest, fewer, narrows, repeats, spent}
-use Rattle.residue.specs.Choice.{by-cond, never, both, first, second}
-use Rattle.residue.specs.Bits.{and-assoc, and-twice, and-outside, outside-and, outside-in}
-use Rattle.residue.specs.Lines.{Masked, masked}
-use Rattle.residue.specs.Questions.{covers-self}
+use Rattle.residue.specs.Relations.{everyLeft, equalOf, differsOf, atMostOf, atLeastOf, sameTest, fewer, narrows}
+use Rattle.residue.specs.Choice.{by-cond, both, first, second}
+use Rattle.residue.specs.Bits.{and-twice, and-outside, outside-in}
+use Rattle.residue.specs.Lines.{masked}
 use Rattle.residue.specs.declared.Test.{Test}
 use Rattle.residue.specs.declared.Test.the-variants.{Equal, Differs, AtMost, AtLeast}
 use Rattle.residue.specs.declared.Fact.{Fact}
 use Rattle.residue.specs.declared.Fact.the-variants as F
-use Rattle.residue.specs.declared.Outcome.{Outcome}
-use Rattle.residue.specs.declared.Outcome.the-variants as O
 use Rattle.residue.specs.declared.Residue.{Residue}
 use Rattle.residue.specs.declared.Residue.the-variants.{True, False, Left}
 
@@ -30,8 +25,14 @@ pub every-left : (p : Test → Bool) (d : Residue) (u : Test) → everyLeft p d 
 unfolding everyLeft
 every-left p d u h e = rw e at h
 
+pub every-more : (p q : Test → Bool) (d : Residue) → ((u : Test) → p u ≡ true → q u ≡ true) → everyLeft p d ≡ true → everyLeft q d ≡ true
+unfolding everyLeft
+every-more p q True f h = refl
+every-more p q False f h = refl
+every-more p q (Left u) f h = f u h
+
 -- A choice between a residue and the test itself.
-keep : (p : Test → Bool) (t : Test) (b : Bool) (d : Residue) → everyLeft p d ≡ true → (b ≡ false → p t ≡ true) → everyLeft p (cond b d (Left t)) ≡ true
+pub keep : (p : Test → Bool) (t : Test) (b : Bool) (d : Residue) → everyLeft p d ≡ true → (b ≡ false → p t ≡ true) → everyLeft p (cond b d (Left t)) ≡ true
 unfolding everyLeft
 keep p t b d h f = by-cond (λ (y : Residue). everyLeft p y ≡ true) b (λ _. h) f
 
@@ -87,26 +88,27 @@ same-test-eq (AtLeast c) b e = at-least-case (λ (u : Test). AtLeast c ≡ u) c 
 
 -- ---- fewer bits
 
-record Fewer (m v n w : ℕ) : Type 0 where
-  some : n ≡ 0 → ⊥
-  bits : bitAnd n m ≡ n
-  value : bitAnd v n ≡ w
+pub record Fewer (m v n w : ℕ) : Type 0 where
+  pub some : n ≡ 0 → ⊥
+  pub bits : bitAnd n m ≡ n
+  pub value : bitAnd v n ≡ w
 
 fewer-so : (m v n w : ℕ) → Fewer m v n w → fewer m v n w ≡ true
 unfolding fewer
 fewer-so m v n w r =
     both (not (eqb n 0) && eqb (bitAnd n m) n) (eqb (bitAnd v n) w)
-      (both (not (eqb n 0)) (eqb (bitAnd n m) n) (ap not (ne-eqb n 0 (r .some))) (eq-eqb (bitAnd n m) n (r .bits)))
-      (eq-eqb (bitAnd v n) w (r .value))
+    (both (not (eqb n 0)) (eqb (bitAnd n m) n) (ap not (ne-eqb n 0 (r .some))) (eq-eqb (bitAnd n m) n (r .bits)))
+    (eq-eqb (bitAnd v n) w (r .value))
 
-so-fewer : (m v n w : ℕ) → fewer m v n w ≡ true → Fewer m v n w
+pub so-fewer : (m v n w : ℕ) → fewer m v n w ≡ true → Fewer m v n w
 unfolding fewer
 so-fewer m v n w e =
     let ab = first (not (eqb n 0) && eqb (bitAnd n m) n) (eqb (bitAnd v n) w) e in
-    record
-      { some = eqb-false n 0 (not-true (eqb n 0) (first (not (eqb n 0)) (eqb (bitAnd n m) n) ab));
-        bits = eqb-true (bitAnd n m) n (second (not (eqb n 0)) (eqb (bitAnd n m) n) ab);
-        value = eqb-true (bitAnd v n) w (second (not (eqb n 0) && eqb (bitAnd n m) n) (eqb (bitAnd v n) w) e) }
+    record {
+      some = eqb-false n 0 (not-true (eqb n 0) (first (not (eqb n 0)) (eqb (bitAnd n m) n) ab));
+      bits = eqb-true (bitAnd n m) n (second (not (eqb n 0)) (eqb (bitAnd n m) n) ab);
+      value = eqb-true (bitAnd v n) w (second (not (eqb n 0) && eqb (bitAnd n m) n) (eqb (bitAnd v n) w) e);
+    }
 
 fewer-refl : (full m v : ℕ) → wellMasked full m v ≡ true → fewer m v m v ≡ true
 fewer-refl full m v h =
@@ -117,10 +119,11 @@ fewer-refl full m v h =
 fewer-outside : (full m v k : ℕ) → wellMasked full m v ≡ true → eqb (outside m k) 0 ≡ false → fewer m v (outside m k) (outside v k) ≡ true
 fewer-outside full m v k h e =
     fewer-so m v (outside m k) (outside v k)
-      (record
-        { some = eqb-false (outside m k) 0 e;
-          bits = outside-in m k;
-          value = and-outside v m k ∙ ap (λ (y : ℕ). outside y k) (masked full m v h .inside) })
+    (record {
+      some = eqb-false (outside m k) 0 e;
+      bits = outside-in m k;
+      value = and-outside v m k ∙ ap (λ (y : ℕ). outside y k) (masked full m v h .inside);
+    })
 
 fewer-well : (full m v n w : ℕ) → wellMasked full m v ≡ true → fewer m v n w ≡ true → wellMasked full n w ≡ true
 unfolding wellMasked
@@ -128,10 +131,10 @@ fewer-well full m v n w h e =
     let k = masked full m v h in
     let r = so-fewer m v n w e in
     both (not (eqb n 0) && leb n full && leb w full) (eqb (bitAnd w n) w)
-      (both (not (eqb n 0) && leb n full) (leb w full)
-        (both (not (eqb n 0)) (leb n full) (ap not (ne-eqb n 0 (r .some))) (le-leb n full (omega (arith, k .mask, r .bits, and-le-r n m))))
-        (le-leb w full (omega (arith, k .value, r .value, and-le-l v n))))
-      (eq-eqb (bitAnd w n) w (ap (λ (y : ℕ). bitAnd y n) (sym (r .value)) ∙ and-twice v n ∙ r .value))
+    (both (not (eqb n 0) && leb n full) (leb w full)
+    (both (not (eqb n 0)) (leb n full) (ap not (ne-eqb n 0 (r .some))) (le-leb n full (omega (arith, k .mask, r .bits, and-le-r n m))))
+    (le-leb w full (omega (arith, k .value, r .value, and-le-l v n))))
+    (eq-eqb (bitAnd w n) w (ap (λ (y : ℕ). bitAnd y n) (sym (r .value)) ∙ and-twice v n ∙ r .value))
 
 -- ---- narrowing
 
@@ -142,32 +145,48 @@ narrows-refl full (Differs m v) h = fewer-refl full m v h
 narrows-refl full (AtMost c) h = eq-eqb c c refl
 narrows-refl full (AtLeast c) h = eq-eqb c c refl
 
+-- What narrows is a mask with fewer bits, of the same kind, or the same bound.
+pub narrows-case : (P : Test → Test → Type 0)
+    → ((m v n w : ℕ) → fewer m v n w ≡ true → P (Equal m v) (Equal n w))
+    → ((m v n w : ℕ) → fewer m v n w ≡ true → P (Differs m v) (Differs n w))
+    → ((c : ℕ) → P (AtMost c) (AtMost c))
+    → ((c : ℕ) → P (AtLeast c) (AtLeast c))
+    → (t u : Test) → narrows t u ≡ true → P t u
+unfolding narrows
+narrows-case P e d l g (Equal m v) u h = equal-case (P (Equal m v)) (fewer m v) u (e m v) h
+narrows-case P e d l g (Differs m v) u h = differs-case (P (Differs m v)) (fewer m v) u (d m v) h
+narrows-case P e d l g (AtMost c) u h = at-most-case (P (AtMost c)) c u (l c) h
+narrows-case P e d l g (AtLeast c) u h = at-least-case (P (AtLeast c)) c u (g c) h
+
 -- A test on fewer bits is well formed.
 pub narrows-well : (full : ℕ) (t u : Test) → wellFormed full t ≡ true → narrows t u ≡ true → wellFormed full u ≡ true
-unfolding wellFormed narrows
-narrows-well full (Equal m v) u h e = equal-case (λ (y : Test). wellFormed full y ≡ true) (fewer m v) u (λ n w. fewer-well full m v n w h) e
-narrows-well full (Differs m v) u h e = differs-case (λ (y : Test). wellFormed full y ≡ true) (fewer m v) u (λ n w. fewer-well full m v n w h) e
-narrows-well full (AtMost c) u h e = at-most-case (λ (y : Test). wellFormed full y ≡ true) c u h e
-narrows-well full (AtLeast c) u h e = at-least-case (λ (y : Test). wellFormed full y ≡ true) c u h e
+unfolding wellFormed
+narrows-well full t u h e =
+    narrows-case (λ (x y : Test). wellFormed full x ≡ true → wellFormed full y ≡ true)
+    (λ m v n w r k. fewer-well full m v n w k r)
+    (λ m v n w r k. fewer-well full m v n w k r)
+    (λ c k. k)
+    (λ c k. k)
+    t u e h
 
 masked-narrows : (full k w : ℕ) (t : Test) → wellFormed full t ≡ true → everyLeft (narrows t) (fromMasked full k w t) ≡ true
 unfolding everyLeft wellFormed narrows equalOf differsOf fromMasked reducedEqual reducedDiffers
 masked-narrows full k w (Equal m v) h =
     by-cond (λ (d : Residue). everyLeft (narrows (Equal m v)) d ≡ true) (eqb (bitAnd v k) (bitAnd w m))
-      (λ _. keep (narrows (Equal m v)) (Equal (outside m k) (outside v k)) (eqb (outside m k) 0) True refl (fewer-outside full m v k h))
-      (λ _. refl)
+    (λ _. keep (narrows (Equal m v)) (Equal (outside m k) (outside v k)) (eqb (outside m k) 0) True refl (fewer-outside full m v k h))
+    (λ _. refl)
 masked-narrows full k w (Differs m v) h =
     by-cond (λ (d : Residue). everyLeft (narrows (Differs m v)) d ≡ true) (eqb (bitAnd v k) (bitAnd w m))
-      (λ _. keep (narrows (Differs m v)) (Differs (outside m k) (outside v k)) (eqb (outside m k) 0) False refl (fewer-outside full m v k h))
-      (λ _. refl)
+    (λ _. keep (narrows (Differs m v)) (Differs (outside m k) (outside v k)) (eqb (outside m k) 0) False refl (fewer-outside full m v k h))
+    (λ _. refl)
 masked-narrows full k w (AtMost c) h =
     by-cond (λ (d : Residue). everyLeft (narrows (AtMost c)) d ≡ true) (ltb c w) (λ _. refl)
-      (λ _. keep (narrows (AtMost c)) (AtMost c) (leb (w + (full - k)) c) True refl (λ _. narrows-refl full (AtMost c) h))
+    (λ _. keep (narrows (AtMost c)) (AtMost c) (leb (w + (full - k)) c) True refl (λ _. narrows-refl full (AtMost c) h))
 masked-narrows full k w (AtLeast c) h =
     by-cond (λ (d : Residue). everyLeft (narrows (AtLeast c)) d ≡ true) (leb c w) (λ _. refl)
-      (λ _. keep (narrows (AtLeast c)) (AtLeast c) (ltb (w + (full - k)) c) False refl (λ _. narrows-refl full (AtLeast c) h))
+    (λ _. keep (narrows (AtLeast c)) (AtLeast c) (ltb (w + (full - k)) c) False refl (λ _. narrows-refl full (AtLeast c) h))
 
-settled-every : (p : Test → Bool) (b : Bool) → everyLeft p (settled b) ≡ true
+pub settled-every : (p : Test → Bool) (b : Bool) → everyLeft p (settled b) ≡ true
 unfolding everyLeft settled
 settled-every p true = refl
 settled-every p false = refl
@@ -198,8 +217,8 @@ equal-narrows : (full k w : ℕ) (t : Test) → wellFormed full t ≡ true → e
 unfolding fromEqual
 equal-narrows full k w t h =
     by-cond (λ (d : Residue). everyLeft (narrows t) d ≡ true) (eqb k full)
-      (λ _. settled-every (narrows t) (holds t w))
-      (λ _. masked-narrows full k w t h)
+    (λ _. settled-every (narrows t) (holds t w))
+    (λ _. masked-narrows full k w t h)
 
 -- What a fact leaves of a test is the test on some of its bits.
 pub residue-narrows : (full : ℕ) (k : Fact) (t : Test) → wellFormed full t ≡ true → everyLeft (narrows t) (residueBy full k t) ≡ true
@@ -210,93 +229,14 @@ residue-narrows full (F.Known (Differs k w)) t h = differs-keeps (narrows t) k w
 residue-narrows full (F.Known (AtMost b)) t h = at-most-keeps (narrows t) b t (narrows-refl full t h)
 residue-narrows full (F.Known (AtLeast b)) t h = at-least-keeps (narrows t) full b t (narrows-refl full t h)
 
-left-well : (full : ℕ) (t : Test) (d : Residue) → wellFormed full t ≡ true → everyLeft (narrows t) d ≡ true → wellLeft full d ≡ true
+well-left : (full : ℕ) (d : Residue) → everyLeft (wellFormed full) d ≡ wellLeft full d
 unfolding everyLeft wellLeft
-left-well full t True h e = refl
-left-well full t False h e = refl
-left-well full t (Left u) h e = narrows-well full t u h e
+well-left full True = refl
+well-left full False = refl
+well-left full (Left u) = refl
 
 -- So it is well formed.
 pub residue-well : (full : ℕ) (k : Fact) (t : Test) → wellFormed full t ≡ true → wellLeft full (residueBy full k t) ≡ true
-residue-well full k t h = left-well full t (residueBy full k t) h (residue-narrows full k t h)
-
--- ---- never asked twice
-
--- Of the reduced masks: no known bit is asked again.
-pub reduced-outside : (m k : ℕ) → bitAnd (outside m k) k ≡ 0
-reduced-outside m k = outside-and m k
-
-uncovered : (m v k w : ℕ) → (k ≡ 0 → ⊥) → not (covers (outside m k) v k w) ≡ true
-unfolding covers
-uncovered m v k w z =
-    ap not
-      (never (eqb (bitAnd k (outside m k)) k && eqb (bitAnd v k) w)
-        (λ e. z (sym (eqb-true (bitAnd k (outside m k)) k (first (eqb (bitAnd k (outside m k)) k) (eqb (bitAnd v k) w) e)) ∙ and-comm k (outside m k) ∙ outside-and m k)))
-
--- The question's own fact, line by line. Equal and differs give each other's facts, so q is either.
-module _ (k w : ℕ) where
-  masked-spent : (full : ℕ) → (k ≡ 0 → ⊥) → (t : Test) → everyLeft (spent (Equal k w)) (fromMasked full k w t) ≡ true
-  unfolding everyLeft spent repeats maskedOf fromMasked reducedEqual reducedDiffers
-  masked-spent full z (Equal m v) =
-      by-cond (λ (d : Residue). everyLeft (spent (Equal k w)) d ≡ true) (eqb (bitAnd v k) (bitAnd w m))
-        (λ _. keep (spent (Equal k w)) (Equal (outside m k) (outside v k)) (eqb (outside m k) 0) True refl (λ _. uncovered m (outside v k) k w z))
-        (λ _. refl)
-  masked-spent full z (Differs m v) =
-      by-cond (λ (d : Residue). everyLeft (spent (Equal k w)) d ≡ true) (eqb (bitAnd v k) (bitAnd w m))
-        (λ _. keep (spent (Equal k w)) (Differs (outside m k) (outside v k)) (eqb (outside m k) 0) False refl (λ _. uncovered m (outside v k) k w z))
-        (λ _. refl)
-  masked-spent full z (AtMost c) =
-      by-cond (λ (d : Residue). everyLeft (spent (Equal k w)) d ≡ true) (ltb c w) (λ _. refl)
-        (λ _. keep (spent (Equal k w)) (AtMost c) (leb (w + (full - k)) c) True refl (λ _. refl))
-  masked-spent full z (AtLeast c) =
-      by-cond (λ (d : Residue). everyLeft (spent (Equal k w)) d ≡ true) (leb c w) (λ _. refl)
-        (λ _. keep (spent (Equal k w)) (AtLeast c) (ltb (w + (full - k)) c) False refl (λ _. refl))
-
-  equal-spent : (full : ℕ) → (k ≡ 0 → ⊥) → (t : Test) → everyLeft (spent (Equal k w)) (fromEqual full k w t) ≡ true
-  unfolding fromEqual
-  equal-spent full z t =
-      by-cond (λ (d : Residue). everyLeft (spent (Equal k w)) d ≡ true) (eqb k full)
-        (λ _. settled-every (spent (Equal k w)) (holds t w))
-        (λ _. masked-spent full z t)
-
-  differs-spent : (t : Test) → everyLeft (spent (Equal k w)) (fromDiffers k w t) ≡ true
-  unfolding everyLeft spent repeats maskedOf fromDiffers
-  differs-spent (Equal m v) = keep (spent (Equal k w)) (Equal m v) (covers m v k w) False refl (λ e. ap not e)
-  differs-spent (Differs m v) = keep (spent (Equal k w)) (Differs m v) (covers m v k w) True refl (λ e. ap not e)
-  differs-spent (AtMost c) = refl
-  differs-spent (AtLeast c) = refl
-
-module _ (c : ℕ) where
-  -- At most c, once x ≤ c is known, or x ≥ b with b above c.
-  at-most-spent : (t : Test) → everyLeft (spent (AtMost c)) (fromAtMost c t) ≡ true
-  unfolding everyLeft spent repeats atMostOf fromAtMost
-  at-most-spent (Equal m v) = keep (spent (AtMost c)) (Equal m v) (ltb c v) False refl (λ _. refl)
-  at-most-spent (Differs m v) = keep (spent (AtMost c)) (Differs m v) (ltb c v) True refl (λ _. refl)
-  at-most-spent (AtMost d) =
-      keep (spent (AtMost c)) (AtMost d) (leb c d) True refl (λ e. ap not (ne-eqb c d (λ (q : c ≡ d). omega (arith, leb-false c d e))))
-  at-most-spent (AtLeast d) = keep (spent (AtMost c)) (AtLeast d) (ltb c d) False refl (λ _. refl)
-
-  above-spent : (full b : ℕ) → c < b → (t : Test) → everyLeft (spent (AtMost c)) (fromAtLeast full b t) ≡ true
-  unfolding everyLeft spent repeats atMostOf fromAtLeast
-  above-spent full b h (Equal m v) = keep (spent (AtMost c)) (Equal m v) (ltb (v + (full - m)) b) False refl (λ _. refl)
-  above-spent full b h (Differs m v) = keep (spent (AtMost c)) (Differs m v) (ltb (v + (full - m)) b) True refl (λ _. refl)
-  above-spent full b h (AtMost d) =
-      keep (spent (AtMost c)) (AtMost d) (ltb d b) False refl (λ e. ap not (ne-eqb c d (λ (q : c ≡ d). omega (arith, ltb-false d b e))))
-  above-spent full b h (AtLeast d) = keep (spent (AtMost c)) (AtLeast d) (leb d b) True refl (λ _. refl)
-
-  -- At least c, once x ≥ c is known, or x ≤ b with b below c.
-  at-least-spent : (full : ℕ) (t : Test) → everyLeft (spent (AtLeast c)) (fromAtLeast full c t) ≡ true
-  unfolding everyLeft spent repeats atLeastOf fromAtLeast
-  at-least-spent full (Equal m v) = keep (spent (AtLeast c)) (Equal m v) (ltb (v + (full - m)) c) False refl (λ _. refl)
-  at-least-spent full (Differs m v) = keep (spent (AtLeast c)) (Differs m v) (ltb (v + (full - m)) c) True refl (λ _. refl)
-  at-least-spent full (AtMost d) = keep (spent (AtLeast c)) (AtMost d) (ltb d c) False refl (λ _. refl)
-  at-least-spent full (AtLeast d) =
-      keep (spent (AtLeast c)) (AtLeast d) (leb d c) True refl (λ e. ap not (ne-eqb c d (λ (q : c ≡ d). omega (arith, leb-false d c e))))
-
-  below-spent : (b : ℕ) → b < c → (t : Test) → everyLeft (spent (AtLeast c)) (fromAtMost b t) ≡ true
-  unfolding everyLeft spent repeats atLeastOf fromAtMost
-  below-spent b h (Equal m v) = keep (spent (AtLeast c)) (Equal m v) (ltb b v) False refl (λ _. refl)
-  below-spent b h (Differs m v) = keep (spent (AtLeast c)) (Differs m v) (ltb b v) True refl (λ _. refl)
-  below-spent b h (AtMost d) = keep (spent (AtLeast c)) (AtMost d) (leb b d) True refl (λ _. refl)
-  below-spent b h (AtLeast d) =
-      keep (spent (AtLeast c)) (AtLeast d) (ltb b d) False refl (λ e. ap not (ne-eqb c d (λ (q : c ≡ d). omega (arith, ltb-false b d e))))
+residue-well full k t h =
+    sym (well-left full (residueBy full k t))
+    ∙ every-more (narrows t) (wellFormed full) (residueBy full k t) (λ u. narrows-well full t u h) (residue-narrows full k t h)

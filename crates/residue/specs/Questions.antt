@@ -77,13 +77,13 @@ equal-own : (full m v : ℕ) → isSettled (fromEqual full m v (Equal m v)) ≡ 
 unfolding isSettled fromEqual fromMasked reducedEqual
 equal-own full m v =
     by-cond (λ (d : Residue). isSettled d ≡ true) (eqb m full) (λ _. settled-settled (holds (Equal m v) v))
-      (λ _. rw (eq-eqb (bitAnd v m) (bitAnd v m) refl, eq-eqb (outside m m) 0 (outside-self m)))
+    (λ _. rw (eq-eqb (bitAnd v m) (bitAnd v m) refl, eq-eqb (outside m m) 0 (outside-self m)))
 
 differs-own : (full m v : ℕ) → isSettled (fromEqual full m v (Differs m v)) ≡ true
 unfolding isSettled fromEqual fromMasked reducedDiffers
 differs-own full m v =
     by-cond (λ (d : Residue). isSettled d ≡ true) (eqb m full) (λ _. settled-settled (holds (Differs m v) v))
-      (λ _. rw (eq-eqb (bitAnd v m) (bitAnd v m) refl, eq-eqb (outside m m) 0 (outside-self m)))
+    (λ _. rw (eq-eqb (bitAnd v m) (bitAnd v m) refl, eq-eqb (outside m m) 0 (outside-self m)))
 
 holds-own : (full : ℕ) (t : Test) → wellFormed full t ≡ true → isSettled (residueBy full (F.Known t) t) ≡ true
 unfolding isSettled wellFormed residueBy fromDiffers fromAtMost fromAtLeast
@@ -98,10 +98,10 @@ fails-own full (Equal m v) h = rw (covers-self full m v h)
 fails-own full (Differs m v) h = differs-own full m v
 fails-own full (AtMost c) h =
     by-cond (λ (k : Fact). isSettled (residueBy full k (AtMost c)) ≡ true) (leb full c) (λ _. refl)
-      (λ _. rw (lt-ltb c (c + 1) (omega arith)))
+    (λ _. rw (lt-ltb c (c + 1) (omega arith)))
 fails-own full (AtLeast c) h =
     by-cond (λ (k : Fact). isSettled (residueBy full k (AtLeast c)) ≡ true) (eqb c 0) (λ _. refl)
-      (λ e. let z = eqb-false c 0 e in rw (lt-ltb (c - 1) c (omega arith)))
+    (λ e. let z = eqb-false c 0 e in rw (lt-ltb (c - 1) c (omega arith)))
 
 -- Whatever a question comes to, nothing is left of it.
 pub residue-own : (full : ℕ) (o : Outcome) (t : Test) → wellFormed full t ≡ true → isSettled (residueBy full (factOf full o t) t) ≡ true
