@@ -1,3 +1,4 @@
 pub mod Outcome
 pub mod Memory
 pub mod Promises
+pub mod MemoryLaws
