@@ -2,3 +2,4 @@ pub mod Outcome
 pub mod Memory
 pub mod Promises
 pub mod MemoryLaws
+pub mod Placed
