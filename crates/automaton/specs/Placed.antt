@@ -35,6 +35,13 @@ pub record Fit (M : Machine) (s : M .State) : Type 0 where
   pub itself : M .same s s ≡ true
   pub four : length (M .question s) ≡ 4
 
+-- A way whose states all find room: they are stored behind those met, with their records by the numbers of any longer list.
+abbrev Rooms : (M : Machine) (slots f : ℕ) (whole met : List (M .State)) (t : M .State) (news : List (M .State)) → Type 0
+Rooms M slots f whole met t news =
+    (o : Outcome) (at : ℕ) (before after : List (List ℕ)) (r : List ℕ) → length before ≡ at → length (before ++ r ∷ after) ≡ length met
+    → placeNext M slots (placeState M slots f) o at t (memory met (before ++ r ∷ after))
+      ≡ room (memory (met ++ news) (before ++ set r (nextWord o) (placeOf M whole t) ∷ (after ++ map (recordOf M whole) news)))
+
 -- A record that gets its next numbers.
 
 linked-at : (M : Machine) (o : Outcome) (at next : ℕ) (met : List (M .State)) (before after : List (List ℕ)) (r : List ℕ) → length before ≡ at
@@ -126,3 +133,18 @@ unfolding andThen
 new-room M slots build o at t met out before after behind r e h hb built =
     rw (next-new M slots build o at t (memory met (before ++ r ∷ after)) e h, built, append-assoc before (r ∷ after) behind)
     (ap room (linked-at M o at (length met) out before (after ++ behind) r hb))
+
+-- A new state that asks, with its three ways.
+built-asking : (M : Machine) (slots f : ℕ) (whole met a b c : List (M .State)) (s : M .State) (records : List (List ℕ))
+    → M .asks s ≡ true → Fit M s → length records ≡ length met
+    → Rooms M slots f whole (met ++ s ∷ []) (M .step Holds s) a
+    → Rooms M slots f whole (met ++ s ∷ [] ++ a) (M .step Fails s) b
+    → Rooms M slots f whole (met ++ s ∷ [] ++ a ++ b) (M .step Absent s) c
+    → placeState M slots (suc f) (length met) s (memory (met ++ s ∷ []) (records ++ freshRecord M s ∷ []))
+      ≡ room (memory (met ++ s ∷ (a ++ b ++ c)) (records ++ map (recordOf M whole) (s ∷ (a ++ b ++ c))))
+built-asking M slots f whole met a b c s records q fit h v w z =
+    rw (← three-ways met s a b c, map-append (recordOf M whole) (a ++ b) c, map-append (recordOf M whole) a b, ← record-asking M whole s q fit)
+    (state-rooms M slots f (length met) s _ _ _ _ q
+    (v Holds (length met) records [] (freshRecord M s) h (simp length-append (omega arith)))
+    (w Fails (length met) records (map (recordOf M whole) a) _ h (simp (length-append, length-map) (omega arith)))
+    (z Absent (length met) records (map (recordOf M whole) a ++ map (recordOf M whole) b) _ h (simp (length-append, length-map) (omega arith))))
