@@ -17,8 +17,8 @@ use Rattle.residue.specs.declared.Outcome.the-variants.{Holds, Fails, Absent}
 use Rattle.automaton.specs.Machines.{Machine, meets, placeOf, visit, nextsOf, recordOf}
 use Rattle.automaton.specs.Placing.{Memory, Placed, full, room, nextWord, freshRecord, stored, linked, andThen, placeWay, placeState, placeAll}
 use Rattle.automaton.specs.Lawful.{Lawful, Each, Begins}
-use Rattle.automaton.specs.Visited.{Visits, old, final, asking, visits-exist, visits-visit, three-ways, begins-refl, begins-append, begins-trans}
-use Rattle.automaton.specs.Places.{each-head, each-tail, place-append, place-new}
+use Rattle.automaton.specs.Visited.{Visits, old, final, asking, visits-exist, visits-visit, three-ways, begins-refl, begins-append, begins-trans, begins-length}
+use Rattle.automaton.specs.Places.{each-head, each-tail, each-left, each-right, place-begins, place-begins-new}
 
 abbrev pub memory : {M : Machine} → List (M .State) → List (List ℕ) → Memory M
 memory met records = record { met = met; records = records }
@@ -148,3 +148,35 @@ built-asking M slots f whole met a b c s records q fit h v w z =
     (v Holds (length met) records [] (freshRecord M s) h (simp length-append (omega arith)))
     (w Fails (length met) records (map (recordOf M whole) a) _ h (simp (length-append, length-map) (omega arith)))
     (z Absent (length met) records (map (recordOf M whole) a ++ map (recordOf M whole) b) _ h (simp (length-append, length-map) (omega arith))))
+
+longer-begins : {A : Type 0} (met a b c : List A) (s : A) {whole : List A} → Begins (met ++ s ∷ (a ++ b ++ c)) whole
+    → Begins (met ++ s ∷ [] ++ a) whole × Begins (met ++ s ∷ [] ++ a ++ b) whole × Begins (met ++ s ∷ [] ++ a ++ b ++ c) whole
+longer-begins {A} met a b c s {whole} p =
+    let p3 = subst (λ (l : List A). Begins l whole) (sym (three-ways met s a b c)) p in
+    let p2 = begins-trans (begins-append (met ++ s ∷ [] ++ a ++ b) c) p3 in
+    (begins-trans (begins-append (met ++ s ∷ [] ++ a) b) p2, p2, p3)
+
+new-bound : {A : Type 0} (met more : List A) (s : A) (n : ℕ) → length (met ++ s ∷ more) ≤ n → length met < n
+new-bound met more s n h = omega (arith, length-append met (s ∷ more))
+
+way-room : (M : Machine) (slots : ℕ) (whole : List (M .State)) {f : ℕ} {met news : List (M .State)} {t : M .State}
+    → Visits M f met t news → Each (Fit M) news → Begins (met ++ news) whole → length (met ++ news) ≤ slots → Rooms M slots f whole met t news
+unfolding stored
+way-room M slots whole {f} {met} {t} (old e) fits begins bound o at before after r hb hl =
+    rw (append-nil met, append-nil after, place-begins M t (begins-trans (begins-append met []) begins) e)
+    (next-old M slots (placeState M slots f) o at t (memory met (before ++ r ∷ after)) e ∙ ap room (linked-at M o at (placeOf M met t) met before after r hb))
+way-room M slots whole {f} {met} {t} (final e q) fits begins bound o at before after r hb hl =
+    rw (place-begins-new M met [] t begins e (each-head fits .itself), ← record-final M whole t q)
+    (new-room M slots (placeState M slots f) o at t met (met ++ t ∷ []) before after (freshRecord M t ∷ []) r e (new-bound met [] t slots bound) hb
+    (state-final M slots f (length met) t _ q))
+way-room M slots whole {met} {t} (asking {f = f} {a = a} {b = b} {c = c} e q v w z) fits begins bound o at before after r hb hl =
+    let longer = longer-begins met a b c t (begins-refl (met ++ t ∷ (a ++ b ++ c))) in
+    let inside = longer-begins met a b c t begins in
+    let rest = each-tail fits in
+    rw (place-begins-new M met (a ++ b ++ c) t begins e (each-head fits .itself))
+    (new-room M slots (placeState M slots (suc f)) o at t met (met ++ t ∷ (a ++ b ++ c)) before after (map (recordOf M whole) (t ∷ (a ++ b ++ c))) r e
+    (new-bound met (a ++ b ++ c) t slots bound) hb
+    (built-asking M slots f whole met a b c t (before ++ r ∷ after) q (each-head fits) hl
+    (λ o at before after r hb hl. way-room M slots whole v (each-left a b (each-left (a ++ b) c rest)) (inside .0) (omega (arith, begins-length (longer .0))) o at before after r hb hl)
+    (λ o at before after r hb hl. way-room M slots whole w (each-right a b (each-left (a ++ b) c rest)) (inside .1) (omega (arith, begins-length (longer .1))) o at before after r hb hl)
+    (λ o at before after r hb hl. way-room M slots whole z (each-right (a ++ b) c rest) (inside .2) (omega (arith, begins-length (longer .2))) o at before after r hb hl)))

@@ -5,7 +5,7 @@ use native.Mathlib.Nat.{not-suc-le-zero, le-of-suc-le-suc}
 use native.Mathlib.Numerals.{add-one}
 use mathlib.Core.Path.{_≡_, refl, sym, ap, _∙_, subst}
 use mathlib.Core.Bool.{Bool, true, false, cond, _||_, false≢true, or-true}
-use mathlib.Core.List.{List, [], _∷_, _++_, List·Memᴰ, List·Memᴰ·head, List·Memᴰ·tail}
+use mathlib.Core.List.{List, [], _∷_, _++_, append-assoc, List·Memᴰ, List·Memᴰ·head, List·Memᴰ·tail, Memᴰ·append-left, Memᴰ·append-right}
 use lib.ListN.{length, getD}
 use Rattle.automaton.specs.Machines.{Machine, meets, placeOf}
 use Rattle.automaton.specs.Lawful.{Lawful, Each, Begins, Apart, apart-none, apart-more, Distinct, distinct-none, distinct-more}
@@ -15,6 +15,12 @@ each-tail all y m = all y (List·Memᴰ·tail m)
 
 pub each-head : {A : Type 0} {P : A → Type 0} {x : A} {l : List A} → Each P (x ∷ l) → P x
 each-head {x} all = all x (List·Memᴰ·head refl)
+
+pub each-left : {A : Type 0} {P : A → Type 0} (a b : List A) → Each P (a ++ b) → Each P a
+each-left a b all x m = all x (Memᴰ·append-left b m)
+
+pub each-right : {A : Type 0} {P : A → Type 0} (a b : List A) → Each P (a ++ b) → Each P b
+each-right a b all x m = all x (Memᴰ·append-right a m)
 
 pub getD-mem : {A : Type 0} (l : List A) (i : ℕ) (d : A) → i < length l → List·Memᴰ (getD l i d) l
 getD-mem [] i d h = absurd (not-suc-le-zero h)
@@ -66,6 +72,16 @@ place-below M (x ∷ met) s e = go (M .same x s) (λ r. place-below M met s r) e
       → cond b 0 (placeOf M met s + 1) < suc (length met)
     go true below r = omega arith
     go false below r = omega (arith, below r)
+
+-- The same, of a list that begins the longer one.
+
+pub place-begins : (M : Machine) {met whole : List (M .State)} (s : M .State) → Begins met whole → meets M met s ≡ true
+    → placeOf M whole s ≡ placeOf M met s
+place-begins M {met} s b e = rw (b .grown) (place-append M met (b .rest) s e)
+
+pub place-begins-new : (M : Machine) (met more : List (M .State)) {whole : List (M .State)} (s : M .State) → Begins (met ++ s ∷ more) whole
+    → meets M met s ≡ false → M .same s s ≡ true → placeOf M whole s ≡ length met
+place-begins-new M met more s b e r = rw (b .grown, append-assoc met (s ∷ more) (b .rest)) (place-new M met (more ++ b .rest) s e r)
 
 module _ {M : Machine} {Good : M .State → Type 0} {left : M .State → ℕ} (law : Lawful M Good left) where
   pub mem-meets : {met : List (M .State)} {s : M .State} → Good s → List·Memᴰ s met → meets M met s ≡ true

@@ -8,6 +8,7 @@ use mathlib.Core.Path.{_≡_, refl, sym, ap, _∙_, subst}
 use mathlib.Core.Bool.{Bool, true, false, cond, _||_, false≢true}
 use mathlib.Core.Logic.{_⊎_, inl, inr}
 use mathlib.Core.List.{List, [], _∷_, _++_, append-assoc, append-nil, List·Memᴰ, Memᴰ·append-left, List·Memᴰ·append-cases, List·Memᴰ·eq-of-singleton}
+use lib.ListN.{length, length-append}
 use Rattle.residue.specs.declared.Outcome.{Outcome}
 use Rattle.residue.specs.declared.Outcome.the-variants.{Holds, Fails, Absent}
 use Rattle.automaton.specs.Machines.{Machine, meets, placeOf, visit, visitWays}
@@ -71,6 +72,9 @@ begins-trans {A} {a} {b} {c} p q =
 
 pub begins-mem : {A : Type 0} {a b : List A} {x : A} → Begins a b → List·Memᴰ x a → List·Memᴰ x b
 begins-mem {A} {a} {b} {x} p m = subst (λ (l : List A). List·Memᴰ x l) (sym (p .grown)) (Memᴰ·append-left (p .rest) m)
+
+pub begins-length : {A : Type 0} {a b : List A} → Begins a b → length a ≤ length b
+begins-length {A} {a} {b} p = rw (p .grown) (simp length-append (omega arith))
 
 -- What is met stays met, in its place.
 
