@@ -42,6 +42,12 @@ Rooms M slots f whole met t news =
     → placeNext M slots (placeState M slots f) o at t (memory met (before ++ r ∷ after))
       ≡ room (memory (met ++ news) (before ++ set r (nextWord o) (placeOf M whole t) ∷ (after ++ map (recordOf M whole) news)))
 
+-- A way with a state that finds no slot.
+abbrev Fulls : (M : Machine) (slots f : ℕ) (met : List (M .State)) (t : M .State) → Type 0
+Fulls M slots f met t =
+    (o : Outcome) (at : ℕ) (before after : List (List ℕ)) (r : List ℕ) → length before ≡ at → length (before ++ r ∷ after) ≡ length met
+    → placeNext M slots (placeState M slots f) o at t (memory met (before ++ r ∷ after)) ≡ full
+
 -- A record that gets its next numbers.
 
 linked-at : (M : Machine) (o : Outcome) (at next : ℕ) (met : List (M .State)) (before after : List (List ℕ)) (r : List ℕ) → length before ≡ at
@@ -134,21 +140,6 @@ new-room M slots build o at t met out before after behind r e h hb built =
     rw (next-new M slots build o at t (memory met (before ++ r ∷ after)) e h, built, append-assoc before (r ∷ after) behind)
     (ap room (linked-at M o at (length met) out before (after ++ behind) r hb))
 
--- A new state that asks, with its three ways.
-built-asking : (M : Machine) (slots f : ℕ) (whole met a b c : List (M .State)) (s : M .State) (records : List (List ℕ))
-    → M .asks s ≡ true → Fit M s → length records ≡ length met
-    → Rooms M slots f whole (met ++ s ∷ []) (M .step Holds s) a
-    → Rooms M slots f whole (met ++ s ∷ [] ++ a) (M .step Fails s) b
-    → Rooms M slots f whole (met ++ s ∷ [] ++ a ++ b) (M .step Absent s) c
-    → placeState M slots (suc f) (length met) s (memory (met ++ s ∷ []) (records ++ freshRecord M s ∷ []))
-      ≡ room (memory (met ++ s ∷ (a ++ b ++ c)) (records ++ map (recordOf M whole) (s ∷ (a ++ b ++ c))))
-built-asking M slots f whole met a b c s records q fit h v w z =
-    rw (← three-ways met s a b c, map-append (recordOf M whole) (a ++ b) c, map-append (recordOf M whole) a b, ← record-asking M whole s q fit)
-    (state-rooms M slots f (length met) s _ _ _ _ q
-    (v Holds (length met) records [] (freshRecord M s) h (simp length-append (omega arith)))
-    (w Fails (length met) records (map (recordOf M whole) a) _ h (simp (length-append, length-map) (omega arith)))
-    (z Absent (length met) records (map (recordOf M whole) a ++ map (recordOf M whole) b) _ h (simp (length-append, length-map) (omega arith))))
-
 longer-begins : {A : Type 0} (met a b c : List A) (s : A) {whole : List A} → Begins (met ++ s ∷ (a ++ b ++ c)) whole
     → Begins (met ++ s ∷ [] ++ a) whole × Begins (met ++ s ∷ [] ++ a ++ b) whole × Begins (met ++ s ∷ [] ++ a ++ b ++ c) whole
 longer-begins {A} met a b c s {whole} p =
@@ -159,24 +150,132 @@ longer-begins {A} met a b c s {whole} p =
 new-bound : {A : Type 0} (met more : List A) (s : A) (n : ℕ) → length (met ++ s ∷ more) ≤ n → length met < n
 new-bound met more s n h = omega (arith, length-append met (s ∷ more))
 
+-- The three ways of a new state that asks, one after the other.
+three-rooms : (M : Machine) (slots f : ℕ) (whole met a b c : List (M .State)) (s : M .State) (records : List (List ℕ))
+    → M .asks s ≡ true → Fit M s → length records ≡ length met
+    → Rooms M slots f whole (met ++ s ∷ []) (M .step Holds s) a
+    → Rooms M slots f whole (met ++ s ∷ [] ++ a) (M .step Fails s) b
+    → Rooms M slots f whole (met ++ s ∷ [] ++ a ++ b) (M .step Absent s) c
+    → placeState M slots (suc f) (length met) s (memory (met ++ s ∷ []) (records ++ freshRecord M s ∷ []))
+      ≡ room (memory (met ++ s ∷ (a ++ b ++ c)) (records ++ map (recordOf M whole) (s ∷ (a ++ b ++ c))))
+three-rooms M slots f whole met a b c s records q fit h v w z =
+    rw (← three-ways met s a b c, map-append (recordOf M whole) (a ++ b) c, map-append (recordOf M whole) a b, ← record-asking M whole s q fit)
+    (state-rooms M slots f (length met) s _ _ _ _ q
+    (v Holds (length met) records [] (freshRecord M s) h (simp length-append (omega arith)))
+    (w Fails (length met) records (map (recordOf M whole) a) _ h (simp (length-append, length-map) (omega arith)))
+    (z Absent (length met) records (map (recordOf M whole) a ++ map (recordOf M whole) b) _ h (simp (length-append, length-map) (omega arith))))
+
+-- Where the states met fit the slots.
+
+abbrev RoomsIf : (M : Machine) (slots f : ℕ) (whole met : List (M .State)) (t : M .State) (news : List (M .State)) → Type 0
+RoomsIf M slots f whole met t news = Each (Fit M) news → Begins (met ++ news) whole → length (met ++ news) ≤ slots → Rooms M slots f whole met t news
+
+built-room : (M : Machine) (slots f : ℕ) (whole met a b c : List (M .State)) (s : M .State) (records : List (List ℕ))
+    → M .asks s ≡ true → length records ≡ length met
+    → Each (Fit M) (s ∷ (a ++ b ++ c)) → Begins (met ++ s ∷ (a ++ b ++ c)) whole → length (met ++ s ∷ (a ++ b ++ c)) ≤ slots
+    → RoomsIf M slots f whole (met ++ s ∷ []) (M .step Holds s) a
+    → RoomsIf M slots f whole (met ++ s ∷ [] ++ a) (M .step Fails s) b
+    → RoomsIf M slots f whole (met ++ s ∷ [] ++ a ++ b) (M .step Absent s) c
+    → placeState M slots (suc f) (length met) s (memory (met ++ s ∷ []) (records ++ freshRecord M s ∷ []))
+      ≡ room (memory (met ++ s ∷ (a ++ b ++ c)) (records ++ map (recordOf M whole) (s ∷ (a ++ b ++ c))))
+built-room M slots f whole met a b c s records q h fits begins bound v w z =
+    let longer = longer-begins met a b c s (begins-refl (met ++ s ∷ (a ++ b ++ c))) in
+    let inside = longer-begins met a b c s begins in
+    let rest = each-tail fits in
+    three-rooms M slots f whole met a b c s records q (each-head fits) h
+    (v (each-left a b (each-left (a ++ b) c rest)) (inside .0) (omega (arith, begins-length (longer .0))))
+    (w (each-right a b (each-left (a ++ b) c rest)) (inside .1) (omega (arith, begins-length (longer .1))))
+    (z (each-right (a ++ b) c rest) (inside .2) (omega (arith, begins-length (longer .2))))
+
 way-room : (M : Machine) (slots : ℕ) (whole : List (M .State)) {f : ℕ} {met news : List (M .State)} {t : M .State}
-    → Visits M f met t news → Each (Fit M) news → Begins (met ++ news) whole → length (met ++ news) ≤ slots → Rooms M slots f whole met t news
+    → Visits M f met t news → RoomsIf M slots f whole met t news
 unfolding stored
 way-room M slots whole {f} {met} {t} (old e) fits begins bound o at before after r hb hl =
     rw (append-nil met, append-nil after, place-begins M t (begins-trans (begins-append met []) begins) e)
-    (next-old M slots (placeState M slots f) o at t (memory met (before ++ r ∷ after)) e ∙ ap room (linked-at M o at (placeOf M met t) met before after r hb))
+    (next-old M slots (placeState M slots f) o at t (memory met (before ++ r ∷ after)) e
+    ∙ ap room (linked-at M o at (placeOf M met t) met before after r hb))
 way-room M slots whole {f} {met} {t} (final e q) fits begins bound o at before after r hb hl =
     rw (place-begins-new M met [] t begins e (each-head fits .itself), ← record-final M whole t q)
     (new-room M slots (placeState M slots f) o at t met (met ++ t ∷ []) before after (freshRecord M t ∷ []) r e (new-bound met [] t slots bound) hb
     (state-final M slots f (length met) t _ q))
 way-room M slots whole {met} {t} (asking {f = f} {a = a} {b = b} {c = c} e q v w z) fits begins bound o at before after r hb hl =
-    let longer = longer-begins met a b c t (begins-refl (met ++ t ∷ (a ++ b ++ c))) in
-    let inside = longer-begins met a b c t begins in
-    let rest = each-tail fits in
     rw (place-begins-new M met (a ++ b ++ c) t begins e (each-head fits .itself))
     (new-room M slots (placeState M slots (suc f)) o at t met (met ++ t ∷ (a ++ b ++ c)) before after (map (recordOf M whole) (t ∷ (a ++ b ++ c))) r e
     (new-bound met (a ++ b ++ c) t slots bound) hb
-    (built-asking M slots f whole met a b c t (before ++ r ∷ after) q (each-head fits) hl
-    (λ o at before after r hb hl. way-room M slots whole v (each-left a b (each-left (a ++ b) c rest)) (inside .0) (omega (arith, begins-length (longer .0))) o at before after r hb hl)
-    (λ o at before after r hb hl. way-room M slots whole w (each-right a b (each-left (a ++ b) c rest)) (inside .1) (omega (arith, begins-length (longer .1))) o at before after r hb hl)
-    (λ o at before after r hb hl. way-room M slots whole z (each-right (a ++ b) c rest) (inside .2) (omega (arith, begins-length (longer .2))) o at before after r hb hl)))
+    (built-room M slots f whole met a b c t (before ++ r ∷ after) q hl fits begins bound
+    (λ fits begins bound o at before after r hb hl. way-room M slots whole v fits begins bound o at before after r hb hl)
+    (λ fits begins bound o at before after r hb hl. way-room M slots whole w fits begins bound o at before after r hb hl)
+    (λ fits begins bound o at before after r hb hl. way-room M slots whole z fits begins bound o at before after r hb hl)))
+
+-- Where they are more than the slots.
+
+abbrev FullsIf : (M : Machine) (slots f : ℕ) (met : List (M .State)) (t : M .State) (news : List (M .State)) → Type 0
+FullsIf M slots f met t news = Each (Fit M) news → length met ≤ slots → slots < length (met ++ news) → Fulls M slots f met t
+
+built-full : (M : Machine) (slots f : ℕ) (met a b c : List (M .State)) (s : M .State) (records : List (List ℕ))
+    → M .asks s ≡ true → length records ≡ length met
+    → Each (Fit M) (s ∷ (a ++ b ++ c)) → length met < slots → slots < length (met ++ s ∷ (a ++ b ++ c))
+    → Visits M f (met ++ s ∷ []) (M .step Holds s) a → Visits M f (met ++ s ∷ [] ++ a) (M .step Fails s) b
+    → FullsIf M slots f (met ++ s ∷ []) (M .step Holds s) a
+    → FullsIf M slots f (met ++ s ∷ [] ++ a) (M .step Fails s) b
+    → FullsIf M slots f (met ++ s ∷ [] ++ a ++ b) (M .step Absent s) c
+    → placeState M slots (suc f) (length met) s (memory (met ++ s ∷ []) (records ++ freshRecord M s ∷ [])) ≡ full
+built-full M slots f met a b c s records q h fits one over v w full-a full-b full-c =
+    go (leb (length (met ++ s ∷ [] ++ a)) slots) (leb (length (met ++ s ∷ [] ++ a ++ b)) slots) refl refl
+  where
+    fits-a : Each (Fit M) a
+    fits-a = each-left a b (each-left (a ++ b) c (each-tail fits))
+
+    fits-b : Each (Fit M) b
+    fits-b = each-right a b (each-left (a ++ b) c (each-tail fits))
+
+    long : length (records ++ freshRecord M s ∷ []) ≡ length (met ++ s ∷ [])
+    long = simp length-append (omega arith)
+
+    long-a : (whole : List (M .State)) (r : List ℕ) → length (records ++ r ∷ map (recordOf M whole) a) ≡ length (met ++ s ∷ [] ++ a)
+    long-a whole r = simp (length-append, length-map) (omega arith)
+
+    long-b : (whole : List (M .State)) (r : List ℕ)
+      → length (records ++ r ∷ (map (recordOf M whole) a ++ map (recordOf M whole) b)) ≡ length (met ++ s ∷ [] ++ a ++ b)
+    long-b whole r = simp (length-append, length-map) (omega arith)
+
+    go : (x y : Bool) → leb (length (met ++ s ∷ [] ++ a)) slots ≡ x → leb (length (met ++ s ∷ [] ++ a ++ b)) slots ≡ y
+      → placeState M slots (suc f) (length met) s (memory (met ++ s ∷ []) (records ++ freshRecord M s ∷ [])) ≡ full
+    go false y p p' =
+        state-full M slots f (length met) s _ q
+        (full-a fits-a (simp length-append (omega arith)) (leb-false _ slots p) Holds (length met) records [] (freshRecord M s) h long)
+    go true false p p' =
+        let whole = met ++ s ∷ [] ++ a in
+        state-room-full M slots f (length met) s _ _ q
+        (way-room M slots whole v fits-a (begins-refl whole) (leb-true _ slots p) Holds (length met) records [] (freshRecord M s) h long)
+        (full-b fits-b (leb-true _ slots p) (leb-false _ slots p') Fails (length met) records (map (recordOf M whole) a) _ h (long-a whole _))
+    go true true p p' =
+        let whole = met ++ s ∷ [] ++ a ++ b in
+        state-rooms M slots f (length met) s _ _ _ full q
+        (way-room M slots whole v fits-a (begins-append (met ++ s ∷ [] ++ a) b) (leb-true _ slots p) Holds (length met) records [] (freshRecord M s) h long)
+        (way-room M slots whole w fits-b (begins-refl whole) (leb-true _ slots p') Fails (length met) records (map (recordOf M whole) a) _ h (long-a whole _))
+        (full-c (each-right (a ++ b) c (each-tail fits)) (leb-true _ slots p') (rw (three-ways met s a b c) over)
+        Absent (length met) records (map (recordOf M whole) a ++ map (recordOf M whole) b) _ h (long-b whole _))
+
+new-full : (M : Machine) (slots : ℕ) (build : ℕ → M .State → Memory M → Placed M) (o : Outcome) (at : ℕ) (t : M .State) (m : Memory M)
+    → meets M (m .met) t ≡ false → (length (m .met) < slots → build (length (m .met)) t (stored M t m) ≡ full)
+    → placeNext M slots build o at t m ≡ full
+unfolding andThen
+new-full M slots build o at t m e built = go (leb slots (length (m .met))) refl
+  where
+    go : (b : Bool) → leb slots (length (m .met)) ≡ b → placeNext M slots build o at t m ≡ full
+    go true h = next-full M slots build o at t m e (leb-true _ _ h)
+    go false h = rw (next-new M slots build o at t m e (leb-false _ _ h), built (leb-false _ _ h))
+
+way-full : (M : Machine) (slots : ℕ) {f : ℕ} {met news : List (M .State)} {t : M .State} → Visits M f met t news → FullsIf M slots f met t news
+unfolding stored
+way-full M slots {met} (old e) fits bound over o at before after r hb hl =
+    absurd (omega (arith, length-append met []))
+way-full M slots {f} {met} {t} (final e q) fits bound over o at before after r hb hl =
+    next-full M slots (placeState M slots f) o at t (memory met (before ++ r ∷ after)) e (omega (arith, length-append met (t ∷ [])))
+way-full M slots {met} {t} (asking {f = f} {a = a} {b = b} {c = c} e q v w z) fits bound over o at before after r hb hl =
+    new-full M slots (placeState M slots (suc f)) o at t (memory met (before ++ r ∷ after)) e
+    (λ one. built-full M slots f met a b c t (before ++ r ∷ after) q hl fits one over v w
+            (λ fits bound over o at before after r hb hl. way-full M slots v fits bound over o at before after r hb hl)
+            (λ fits bound over o at before after r hb hl. way-full M slots w fits bound over o at before after r hb hl)
+            (λ fits bound over o at before after r hb hl. way-full M slots z fits bound over o at before after r hb hl))
