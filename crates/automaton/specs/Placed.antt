@@ -18,7 +18,8 @@ use Rattle.automaton.specs.Machines.{Machine, meets, placeOf, visit, nex
 use Rattle.automaton.specs.Placing.{Memory, Placed, full, room, nextWord, freshRecord, stored, linked, andThen, placeWay, placeState, placeAll}
 use Rattle.automaton.specs.Lawful.{Lawful, Each, Begins}
 use Rattle.automaton.specs.Visited.{Visits, old, final, asking, visits-exist, visits-visit, three-ways, begins-refl, begins-append, begins-trans, begins-length}
-use Rattle.automaton.specs.Places.{each-head, each-tail, each-left, each-right, place-begins, place-begins-new}
+use Rattle.automaton.specs.Places.{each-head, each-tail, each-left, each-right, meets-nil, place-begins, place-begins-new}
+use Rattle.automaton.specs.Reaching.{each-nil, visits-good}
 
 abbrev pub memory : {M : Machine} → List (M .State) → List (List ℕ) → Memory M
 memory met records = record { met = met; records = records }
@@ -279,3 +280,56 @@ way-full M slots {met} {t} (asking {f = f} {a = a} {b = b} {c = c} e q v w z) fi
             (λ fits bound over o at before after r hb hl. way-full M slots v fits bound over o at before after r hb hl)
             (λ fits bound over o at before after r hb hl. way-full M slots w fits bound over o at before after r hb hl)
             (λ fits bound over o at before after r hb hl. way-full M slots z fits bound over o at before after r hb hl))
+
+-- The whole.
+
+all-some : (M : Machine) (slots f : ℕ) (s : M .State) → 0 < slots
+    → placeAll M slots f s ≡ placeState M slots f 0 s (memory (s ∷ []) (freshRecord M s ∷ []))
+unfolding placeAll stored
+all-some M slots f s h = rw (lt-leb slots 0 h, placeAll)
+
+all-none : (M : Machine) (slots f : ℕ) (s : M .State) → slots ≤ 0 → placeAll M slots f s ≡ full
+unfolding placeAll
+all-none M slots f s h = rw (le-leb slots 0 h, placeAll)
+
+pub placed-room : (M : Machine) (slots : ℕ) {f : ℕ} {news : List (M .State)} {s : M .State} → Visits M f [] s news → Each (Fit M) news → length news ≤ slots
+    → placeAll M slots f s ≡ room (memory news (map (recordOf M news) news))
+placed-room M slots {s} (old e) fits bound = absurd (false≢true (sym (meets-nil M s) ∙ e))
+placed-room M slots {f} {s} (final e q) fits bound =
+    rw (← record-final M (s ∷ []) s q) (all-some M slots f s (omega arith) ∙ state-final M slots f 0 s _ q)
+placed-room M slots {s} (asking {f = f} {a = a} {b = b} {c = c} e q v w z) fits bound =
+    let whole = s ∷ (a ++ b ++ c) in
+    all-some M slots (suc f) s (omega arith)
+    ∙ built-room M slots f whole [] a b c s [] q refl fits (begins-refl whole) bound (way-room M slots whole v) (way-room M slots whole w) (way-room M slots whole z)
+
+pub placed-full : (M : Machine) (slots : ℕ) {f : ℕ} {news : List (M .State)} {s : M .State} → Visits M f [] s news → Each (Fit M) news → slots < length news
+    → placeAll M slots f s ≡ full
+placed-full M slots {s} (old e) fits over = absurd (false≢true (sym (meets-nil M s) ∙ e))
+placed-full M slots {f} {s} (final e q) fits over = all-none M slots f s (omega arith)
+placed-full M slots {s} (asking {f = f} {a = a} {b = b} {c = c} e q v w z) fits over = go (leb slots 0) refl
+  where
+    go : (x : Bool) → leb slots 0 ≡ x → placeAll M slots (suc f) s ≡ full
+    go true h = all-none M slots (suc f) s (leb-true slots 0 h)
+    go false h =
+        all-some M slots (suc f) s (leb-false slots 0 h)
+        ∙ built-full M slots f [] a b c s [] q refl fits (leb-false slots 0 h) over v w (way-full M slots v) (way-full M slots w) (way-full M slots z)
+
+pub placed-visits : (M : Machine) (slots : ℕ) {f : ℕ} {news : List (M .State)} {s : M .State} → Visits M f [] s news → Each (Fit M) news
+    → placeAll M slots f s ≡ cond (leb (length news) slots) (room (memory news (map (recordOf M news) news))) full
+placed-visits M slots {f} {news} {s} v fits = go (leb (length news) slots) refl
+  where
+    go : (x : Bool) → leb (length news) slots ≡ x → placeAll M slots f s ≡ cond x (room (memory news (map (recordOf M news) news))) full
+    go true h = placed-room M slots v fits (leb-true _ slots h)
+    go false h = placed-full M slots v fits (leb-false _ slots h)
+
+module _ {M : Machine} {Good : M .State → Type 0} {left : M .State → ℕ} (law : Lawful M Good left) where
+  pub good-fit : (s : M .State) → Good s → Fit M s
+  good-fit s g = record { itself = law .same-refl s g; four = law .question-long s g }
+
+  pub placed-all : (slots f : ℕ) (s₀ : M .State) → Good s₀ → left s₀ < suc f
+      → placeAll M slots f s₀
+        ≡ cond (leb (length (visit M (suc f) [] s₀)) slots)
+          (room (memory (visit M (suc f) [] s₀) (map (recordOf M (visit M (suc f) [] s₀)) (visit M (suc f) [] s₀)))) full
+  placed-all slots f s₀ g h =
+      let v = visits-exist law f [] s₀ g h in
+      rw (visits-visit (v .1)) (placed-visits M slots (v .1) (λ s m. good-fit s (visits-good law (v .1) (each-nil Good) g s m)))
