@@ -5,5 +5,5 @@ pub mod Visited
 pub mod Places
 pub mod Reaching
 pub mod Records
-pub mod Carrying
 pub mod Placed
+pub mod Carrying
