@@ -1,7 +1,7 @@
 -- An encoding that respects same, asks and step carries the states met across, and with the words of a state their records and how they are placed.
 --   Carried M N Good enc  enc takes the good states of M to states of N that compare, ask, step and read alike
 use Prim.Native.Nat.{ℕ, zero, suc, _+_, _<_}
-use mathlib.Core.Path.{_≡_, refl, sym, ap, _∙_, subst}
+use mathlib.Core.Path.{_≡_, refl, sym, ap, _∙_}
 use mathlib.Core.Bool.{Bool, true, false, cond, _||_}
 use mathlib.Core.List.{List, [], _∷_, _++_, map, map-append}
 use lib.Dec.{leb}

@@ -2,14 +2,13 @@
 --   memory met records  the two lists as a memory
 --   placeNext           placeWay, by the state that the way leads to
 --   Fit M s             what placing asks of a state: it is the same as itself, and its question is four words
-use Prim.Native.Nat.{ℕ, zero, suc, _+_, _≤_, _<_}
+use Prim.Native.Nat.{ℕ, zero, suc, _≤_, _<_}
 use native.Mathlib.Omega.{arith}
-use native.Mathlib.Nat.{not-suc-le-zero, le-of-suc-le-suc}
 use mathlib.Core.Path.{_≡_, refl, sym, ap, _∙_, subst}
 use mathlib.Core.Bool.{Bool, true, false, cond, false≢true}
 use mathlib.Core.List.{List, [], _∷_, _++_, map, map-append, append-assoc, append-nil}
 use lib.Dec.{leb}
-use lib.ListN.{length, getD, set, length-append, length-map}
+use lib.ListN.{length, set, length-append, length-map}
 use lib.Seq.{getD-at, set-at}
 use borrow.Author.Tests.{leb-true, leb-false, le-leb, lt-leb}
 use Rattle.residue.specs.declared.Outcome.{Outcome}

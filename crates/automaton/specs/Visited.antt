@@ -1,18 +1,17 @@
 -- The states met only grow, no state is met twice, and each visit is a derivation.
 --   Visits M f met s news   meeting s after met adds news; at most f questions follow one another
 --   Visit M f met s         the derivation of visit M f met s
-use Prim.Native.Nat.{ℕ, zero, suc, _+_, _≤_, _<_}
+use Prim.Native.Nat.{ℕ, zero, suc, _≤_, _<_}
 use native.Mathlib.Omega.{arith}
 use native.Mathlib.Nat.{not-suc-le-zero}
-use mathlib.Core.Path.{_≡_, refl, sym, ap, _∙_, subst}
-use mathlib.Core.Bool.{Bool, true, false, cond, _||_, false≢true}
-use mathlib.Core.Logic.{_⊎_, inl, inr}
-use mathlib.Core.List.{List, [], _∷_, _++_, append-assoc, append-nil, List·Memᴰ, Memᴰ·append-left, List·Memᴰ·append-cases, List·Memᴰ·eq-of-singleton}
+use mathlib.Core.Path.{_≡_, refl, sym, _∙_, subst}
+use mathlib.Core.Bool.{Bool, true, false, _||_, false≢true}
+use mathlib.Core.List.{List, [], _∷_, _++_, append-assoc, append-nil, List·Memᴰ, Memᴰ·append-left}
 use lib.ListN.{length, length-append}
 use Rattle.residue.specs.declared.Outcome.{Outcome}
 use Rattle.residue.specs.declared.Outcome.the-variants.{Holds, Fails, Absent}
-use Rattle.automaton.specs.Machines.{Machine, meets, placeOf, visit, visitWays}
-use Rattle.automaton.specs.Lawful.{Lawful, Each, Begins, Apart, apart-none, apart-more, Distinct, distinct-none, distinct-more}
+use Rattle.automaton.specs.Machines.{Machine, meets, visit, visitWays}
+use Rattle.automaton.specs.Lawful.{Lawful, Begins, Apart, apart-none, apart-more, Distinct, distinct-none, distinct-more}
 
 pub data Visits (M : Machine) : ℕ → List (M .State) → M .State → List (M .State) → Type 0 where
   old : {f : ℕ} {met : List (M .State)} {s : M .State} → meets M met s ≡ true → Visits M f met s []
