@@ -9,10 +9,10 @@ use lib.ListN.{length, length-map}
 use Rattle.residue.specs.declared.Outcome.{Outcome}
 use Rattle.residue.specs.declared.Outcome.the-variants.{Holds, Fails, Absent}
 use Rattle.automaton.specs.Machines.{Machine, meets, placeOf, visit, visitWays, nextsOf, recordOf, flat, recordsOf}
-use Rattle.automaton.specs.Lawful.{Lawful, Each}
-use Rattle.automaton.specs.Places.{each-head, each-tail}
+use Rattle.automaton.specs.Lists.{each-nil, each-cons, each-head, each-tail, each-append, Each}
+use Rattle.automaton.specs.Lawful.{Lawful}
 use Rattle.automaton.specs.Visited.{visit-old, visit-final, visit-asking, Visits, old, final, asking, visits-exist, visits-visit}
-use Rattle.automaton.specs.Reaching.{each-append, each-cons, each-nil, visit-good, visits-good}
+use Rattle.automaton.specs.Reaching.{visit-good, visits-good}
 use Rattle.automaton.specs.Placing.{full, room, placeAll}
 use Rattle.automaton.specs.Placed.{memory, Fit, placed-visits}
 

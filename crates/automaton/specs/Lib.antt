@@ -1,5 +1,6 @@
 pub mod Machines
 pub mod Placing
+pub mod Lists
 pub mod Lawful
 pub mod Visited
 pub mod Places

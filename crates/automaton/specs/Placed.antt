@@ -14,11 +14,12 @@ use borrow.Author.Tests.{leb-true, leb-false, le-leb, lt-leb}
 use Rattle.residue.specs.declared.Outcome.{Outcome}
 use Rattle.residue.specs.declared.Outcome.the-variants.{Holds, Fails, Absent}
 use Rattle.automaton.specs.Machines.{Machine, meets, placeOf, visit, nextsOf, recordOf}
+use Rattle.automaton.specs.Lists.{each-nil, each-head, each-tail, each-left, each-right, Each, Begins, begins-refl, begins-append, begins-trans, begins-length}
 use Rattle.automaton.specs.Placing.{Memory, Placed, full, room, nextWord, freshRecord, stored, linked, andThen, placeWay, placeState, placeAll}
-use Rattle.automaton.specs.Lawful.{Lawful, Each, Begins}
-use Rattle.automaton.specs.Visited.{Visits, old, final, asking, visits-exist, visits-visit, three-ways, begins-refl, begins-append, begins-trans, begins-length}
-use Rattle.automaton.specs.Places.{each-head, each-tail, each-left, each-right, meets-nil, place-begins, place-begins-new}
-use Rattle.automaton.specs.Reaching.{each-nil, visits-good}
+use Rattle.automaton.specs.Lawful.{Lawful}
+use Rattle.automaton.specs.Visited.{Visits, old, final, asking, visits-exist, visits-visit, three-ways}
+use Rattle.automaton.specs.Places.{meets-nil, place-begins, place-begins-new}
+use Rattle.automaton.specs.Reaching.{visits-good}
 
 abbrev pub memory : {M : Machine} → List (M .State) → List (List ℕ) → Memory M
 memory met records = record { met = met; records = records }

@@ -5,27 +5,11 @@ use native.Mathlib.Nat.{not-suc-le-zero, le-of-suc-le-suc}
 use native.Mathlib.Numerals.{add-one}
 use mathlib.Core.Path.{_≡_, refl, sym, ap, _∙_, subst}
 use mathlib.Core.Bool.{Bool, true, false, cond, _||_, false≢true, or-true}
-use mathlib.Core.List.{List, [], _∷_, _++_, append-assoc, List·Memᴰ, List·Memᴰ·head, List·Memᴰ·tail, Memᴰ·append-left, Memᴰ·append-right}
+use mathlib.Core.List.{List, [], _∷_, _++_, append-assoc, List·Memᴰ, List·Memᴰ·head, List·Memᴰ·tail}
 use lib.ListN.{length, getD}
 use Rattle.automaton.specs.Machines.{Machine, meets, placeOf}
-use Rattle.automaton.specs.Lawful.{Lawful, Each, Begins, Apart, apart-none, apart-more, Distinct, distinct-more}
-
-pub each-tail : {A : Type 0} {P : A → Type 0} {x : A} {l : List A} → Each P (x ∷ l) → Each P l
-each-tail all y m = all y (List·Memᴰ·tail m)
-
-pub each-head : {A : Type 0} {P : A → Type 0} {x : A} {l : List A} → Each P (x ∷ l) → P x
-each-head {x} all = all x (List·Memᴰ·head refl)
-
-pub each-left : {A : Type 0} {P : A → Type 0} (a b : List A) → Each P (a ++ b) → Each P a
-each-left a b all x m = all x (Memᴰ·append-left b m)
-
-pub each-right : {A : Type 0} {P : A → Type 0} (a b : List A) → Each P (a ++ b) → Each P b
-each-right a b all x m = all x (Memᴰ·append-right a m)
-
-pub getD-mem : {A : Type 0} (l : List A) (i : ℕ) (d : A) → i < length l → List·Memᴰ (getD l i d) l
-getD-mem [] i d h = absurd (not-suc-le-zero h)
-getD-mem (x ∷ l) zero d h = List·Memᴰ·head refl
-getD-mem (x ∷ l) (suc i) d h = List·Memᴰ·tail (getD-mem l i d (le-of-suc-le-suc h))
+use Rattle.automaton.specs.Lists.{each-head, each-tail, Each, Begins}
+use Rattle.automaton.specs.Lawful.{Lawful, Apart, apart-none, apart-more, Distinct, distinct-more}
 
 -- The states met, as a longer list has them.
 

@@ -10,9 +10,10 @@ use lib.ListN.{length, getD}
 use Rattle.residue.specs.declared.Outcome.{Outcome}
 use Rattle.residue.specs.declared.Outcome.the-variants.{Holds, Fails, Absent}
 use Rattle.automaton.specs.Machines.{Machine, meets, placeOf, visit, visitWays}
-use Rattle.automaton.specs.Lawful.{Lawful, Reached, start, further, Each, Distinct, distinct-none}
+use Rattle.automaton.specs.Lists.{each-nil, each-cons, each-append, getD-mem, Each}
+use Rattle.automaton.specs.Lawful.{Lawful, Reached, start, further, Distinct, distinct-none}
 use Rattle.automaton.specs.Visited.{Visits, old, final, asking, Visit, visit-visits, three-ways, visit-cases, visit-start, visit-distinct}
-use Rattle.automaton.specs.Places.{getD-mem, mem-meets, meets-mem, meets-nil, place-new, place-state, place-getD}
+use Rattle.automaton.specs.Places.{mem-meets, meets-mem, meets-nil, place-new, place-state, place-getD}
 
 pub record Explored (M : Machine) (met : List (M .State)) (s : M .State) (news : List (M .State)) : Type 0 where
   pub has : List·Memᴰ s (met ++ news)
@@ -21,15 +22,6 @@ pub record Explored (M : Machine) (met : List (M .State)) (s : M .State) (news :
 pub reached-on : {M : Machine} {s t u : M .State} → Reached M s t → Reached M t u → Reached M s u
 reached-on r start = r
 reached-on r (further o q asks) = further o (reached-on r q) asks
-
-pub each-append : {A : Type 0} {P : A → Type 0} (a b : List A) → Each P a → Each P b → Each P (a ++ b)
-each-append a b p q x m = ⊎-elim (p x) (q x) (List·Memᴰ·append-cases a m)
-
-pub each-cons : {A : Type 0} {P : A → Type 0} {x : A} {l : List A} → P x → Each P l → Each P (x ∷ l)
-each-cons {A} {P} {x} {l} p q y m = ⊎-elim (λ (e : y ≡ x). subst P (sym e) p) (q y) (List·Memᴰ·cases-cons m)
-
-pub each-nil : {A : Type 0} (P : A → Type 0) → Each P []
-each-nil P x m = absurd (List·Memᴰ·not-nil m)
 
 -- What a visit adds is reached from its state.
 pub visits-reached : {M : Machine} {f : ℕ} {met news : List (M .State)} {s : M .State} → Visits M f met s news → Each (Reached M s) news

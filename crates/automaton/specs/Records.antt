@@ -10,9 +10,9 @@ use lib.Seq.{take-at, drop-append-add, getD-append-add, getD-take, getD-drop}
 use Rattle.residue.specs.declared.Outcome.{Outcome}
 use Rattle.residue.specs.declared.Outcome.the-variants.{Holds, Fails, Absent}
 use Rattle.automaton.specs.Machines.{Machine, placeOf, nextsOf, recordOf, flat, recordsOf}
+use Rattle.automaton.specs.Lists.{each-head, each-tail, Each}
 use Rattle.automaton.specs.Placing.{nextWord}
-use Rattle.automaton.specs.Lawful.{Lawful, Each}
-use Rattle.automaton.specs.Places.{each-head, each-tail}
+use Rattle.automaton.specs.Lawful.{Lawful}
 
 -- Parts of one length, one behind the other.
 module _ {A : Type 0} (part : A → List ℕ) (k : ℕ) where

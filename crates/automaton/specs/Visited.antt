@@ -1,17 +1,17 @@
 -- The states met only grow, no state is met twice, and each visit is a derivation.
 --   Visits M f met s news   meeting s after met adds news; at most f questions follow one another
 --   Visit M f met s         the derivation of visit M f met s
-use Prim.Native.Nat.{ℕ, zero, suc, _≤_, _<_}
+use Prim.Native.Nat.{ℕ, zero, suc, _<_}
 use native.Mathlib.Omega.{arith}
 use native.Mathlib.Nat.{not-suc-le-zero}
-use mathlib.Core.Path.{_≡_, refl, sym, _∙_, subst}
+use mathlib.Core.Path.{_≡_, refl, sym, _∙_}
 use mathlib.Core.Bool.{Bool, true, false, _||_, false≢true}
-use mathlib.Core.List.{List, [], _∷_, _++_, append-assoc, append-nil, List·Memᴰ, Memᴰ·append-left}
-use lib.ListN.{length, length-append}
+use mathlib.Core.List.{List, [], _∷_, _++_, append-assoc, append-nil}
 use Rattle.residue.specs.declared.Outcome.{Outcome}
 use Rattle.residue.specs.declared.Outcome.the-variants.{Holds, Fails, Absent}
 use Rattle.automaton.specs.Machines.{Machine, meets, visit, visitWays}
-use Rattle.automaton.specs.Lawful.{Lawful, Begins, Apart, apart-none, apart-more, Distinct, distinct-none, distinct-more}
+use Rattle.automaton.specs.Lists.{Begins, begins-refl, begins-append, begins-trans}
+use Rattle.automaton.specs.Lawful.{Lawful, Apart, apart-none, apart-more, Distinct, distinct-none, distinct-more}
 
 pub data Visits (M : Machine) : ℕ → List (M .State) → M .State → List (M .State) → Type 0 where
   old : {f : ℕ} {met : List (M .State)} {s : M .State} → meets M met s ≡ true → Visits M f met s []
@@ -56,24 +56,6 @@ visit-cases M P f met s old-case final-case asking-case = go (meets M met s) (M 
     go true q e eq = rw (visit-old M f met s e) (old-case e)
     go false true e eq = rw (visit-asking M f met s e eq) (asking-case e eq)
     go false false e eq = rw (visit-final M f met s e eq) (final-case e eq)
-
--- A list that begins another.
-
-pub begins-refl : {A : Type 0} (l : List A) → Begins l l
-begins-refl l = record { rest = []; grown = sym (append-nil l) }
-
-pub begins-append : {A : Type 0} (l more : List A) → Begins l (l ++ more)
-begins-append l more = record { rest = more; grown = refl }
-
-pub begins-trans : {A : Type 0} {a b c : List A} → Begins a b → Begins b c → Begins a c
-begins-trans {A} {a} {b} {c} p q =
-    record { rest = p .rest ++ q .rest; grown = q .grown ∙ rw (p .grown) (append-assoc a (p .rest) (q .rest)) }
-
-pub begins-mem : {A : Type 0} {a b : List A} {x : A} → Begins a b → List·Memᴰ x a → List·Memᴰ x b
-begins-mem {A} {a} {b} {x} p m = subst (λ (l : List A). List·Memᴰ x l) (sym (p .grown)) (Memᴰ·append-left (p .rest) m)
-
-pub begins-length : {A : Type 0} {a b : List A} → Begins a b → length a ≤ length b
-begins-length {A} {a} {b} p = rw (p .grown) (simp length-append (omega arith))
 
 -- What is met stays met, in its place.
 
