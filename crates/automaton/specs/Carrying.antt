@@ -48,9 +48,13 @@ module _ {M N : Machine} {Good : M .State → Type 0} {left : M .State → ℕ} 
       let g2 = law .good-step Fails s g q in
       let good1 = visit-good law f met (M .step Holds s) good g1 in
       let good2 = visit-good law f (visit M f met (M .step Holds s)) (M .step Fails s) good1 g2 in
-      rw (carried .step-carried Holds s g q, carried .step-carried Fails s g q, carried .step-carried Absent s g q,
-          below met (M .step Holds s) good g1,
-          below (visit M f met (M .step Holds s)) (M .step Fails s) good1 g2)
+      rw (
+        carried .step-carried Holds s g q,
+        carried .step-carried Fails s g q,
+        carried .step-carried Absent s g q,
+        below met (M .step Holds s) good g1,
+        below (visit M f met (M .step Holds s)) (M .step Fails s) good1 g2,
+      )
       (below _ (M .step Absent s) good2 (law .good-step Absent s g q))
 
   pub visit-carried : (f : ℕ) (met : List (M .State)) (s : M .State) → Each Good met → Good s
@@ -63,7 +67,7 @@ module _ {M N : Machine} {Good : M .State → Type 0} {left : M .State → ℕ} 
       longer = sym (map-append enc met (s ∷ []))
 
       go : ((met : List (M .State)) (s : M .State) → Each Good met → Good s → visit N f (map enc met) (enc s) ≡ map enc (visit M f met s))
-        → (b q : Bool) → meets M met s ≡ b → M .asks s ≡ q → visit N (suc f) (map enc met) (enc s) ≡ map enc (visit M (suc f) met s)
+          → (b q : Bool) → meets M met s ≡ b → M .asks s ≡ q → visit N (suc f) (map enc met) (enc s) ≡ map enc (visit M (suc f) met s)
       go below true q e eq =
           visit-old N f (map enc met) (enc s) (meets-carried met s good g ∙ e) ∙ sym (ap (map enc) (visit-old M f met s e))
       go below false false e eq =
@@ -80,15 +84,19 @@ module _ {M N : Machine} {Good : M .State → Type 0} {left : M .State → ℕ} 
   nexts-carried met s good g = rw (carried .asks-carried s g) (go (M .asks s) refl)
     where
       go : (b : Bool) → M .asks s ≡ b
-        → cond b (placeOf N (map enc met) (N .step Holds (enc s)) ∷ placeOf N (map enc met) (N .step Fails (enc s))
-                  ∷ placeOf N (map enc met) (N .step Absent (enc s)) ∷ []) (0 ∷ 0 ∷ 0 ∷ [])
+          → cond b (placeOf N (map enc met) (N .step Holds (enc s)) ∷ placeOf N (map enc met) (N .step Fails (enc s))
+          ∷ placeOf N (map enc met) (N .step Absent (enc s)) ∷ []) (0 ∷ 0 ∷ 0 ∷ [])
           ≡ cond b (placeOf M met (M .step Holds s) ∷ placeOf M met (M .step Fails s) ∷ placeOf M met (M .step Absent s) ∷ []) (0 ∷ 0 ∷ 0 ∷ [])
       go false q = refl
       go true q =
-          rw (carried .step-carried Holds s g q, carried .step-carried Fails s g q, carried .step-carried Absent s g q,
-              place-carried met (M .step Holds s) good (law .good-step Holds s g q),
-              place-carried met (M .step Fails s) good (law .good-step Fails s g q),
-              place-carried met (M .step Absent s) good (law .good-step Absent s g q))
+          rw (
+            carried .step-carried Holds s g q,
+            carried .step-carried Fails s g q,
+            carried .step-carried Absent s g q,
+            place-carried met (M .step Holds s) good (law .good-step Holds s g q),
+            place-carried met (M .step Fails s) good (law .good-step Fails s g q),
+            place-carried met (M .step Absent s) good (law .good-step Absent s g q),
+          )
 
   pub record-carried : (met : List (M .State)) (s : M .State) → Each Good met → Good s → recordOf N (map enc met) (enc s) ≡ recordOf M met s
   unfolding recordOf
@@ -138,8 +146,8 @@ module _ {M N : Machine} {Good : M .State → Type 0} {left : M .State → ℕ} 
   -- The builder on encoded states.
   pub placed-carried : (slots f : ℕ) (s₀ : M .State) → Good s₀ → left s₀ < suc f
       → placeAll N slots f (enc s₀)
-        ≡ cond (leb (length (visit M (suc f) [] s₀)) slots)
-          (room (memory (map enc (visit M (suc f) [] s₀)) (map (recordOf M (visit M (suc f) [] s₀)) (visit M (suc f) [] s₀)))) full
+      ≡ cond (leb (length (visit M (suc f) [] s₀)) slots)
+      (room (memory (map enc (visit M (suc f) [] s₀)) (map (recordOf M (visit M (suc f) [] s₀)) (visit M (suc f) [] s₀)))) full
   placed-carried slots f s₀ g h =
       let v = visits-exist law f [] s₀ g h in
       let good = visits-good law (v .1) (each-nil Good) g in

@@ -26,11 +26,13 @@ memory met records = record { met = met; records = records }
 
 unfoldable placeNext : (M : Machine) → ℕ → (ℕ → M .State → Memory M → Placed M) → Outcome → ℕ → M .State → Memory M → Placed M
 placeNext M slots build o at t m =
-    elim (meets M (m .met) t)
-    [ true ↦ room (linked M o at (placeOf M (m .met) t) m)
-    | false ↦ elim (leb slots (length (m .met)))
-              [ true ↦ full
-              | false ↦ andThen M (build (length (m .met)) t (stored M t m)) (λ m'. room (linked M o at (length (m .met)) m')) ] ]
+    elim (meets M (m .met) t) [
+      | true ↦ room (linked M o at (placeOf M (m .met) t) m)
+      | false ↦ elim (leb slots (length (m .met))) [
+        | true ↦ full
+        | false ↦ andThen M (build (length (m .met)) t (stored M t m)) (λ m'. room (linked M o at (length (m .met)) m'))
+      ]
+    ]
 
 pub record Fit (M : Machine) (s : M .State) : Type 0 where
   pub itself : M .same s s ≡ true
@@ -41,7 +43,7 @@ abbrev Rooms : (M : Machine) (slots f : ℕ) (whole met : List (M .State)) (t : 
 Rooms M slots f whole met t news =
     (o : Outcome) (at : ℕ) (before after : List (List ℕ)) (r : List ℕ) → length before ≡ at → length (before ++ r ∷ after) ≡ length met
     → placeNext M slots (placeState M slots f) o at t (memory met (before ++ r ∷ after))
-      ≡ room (memory (met ++ news) (before ++ set r (nextWord o) (placeOf M whole t) ∷ (after ++ map (recordOf M whole) news)))
+    ≡ room (memory (met ++ news) (before ++ set r (nextWord o) (placeOf M whole t) ∷ (after ++ map (recordOf M whole) news)))
 
 -- A way with a state that finds no slot.
 abbrev Fulls : (M : Machine) (slots f : ℕ) (met : List (M .State)) (t : M .State) → Type 0
@@ -70,7 +72,7 @@ record-final M whole s q = rw q
 
 record-asking : (M : Machine) (whole : List (M .State)) (s : M .State) → M .asks s ≡ true → Fit M s
     → set (set (set (freshRecord M s) (nextWord Holds) (placeOf M whole (M .step Holds s))) (nextWord Fails) (placeOf M whole (M .step Fails s)))
-      (nextWord Absent) (placeOf M whole (M .step Absent s)) ≡ recordOf M whole s
+    (nextWord Absent) (placeOf M whole (M .step Absent s)) ≡ recordOf M whole s
 unfolding freshRecord recordOf nextsOf nextWord
 record-asking M whole s q fit = rw q (set-nexts (M .question s) (M .sets s) _ _ _ (fit .four))
 
@@ -89,7 +91,7 @@ next-full M slots build o at t m e h = rw (e, placeNext, le-leb slots (length (m
 next-new : (M : Machine) (slots : ℕ) (build : ℕ → M .State → Memory M → Placed M) (o : Outcome) (at : ℕ) (t : M .State) (m : Memory M)
     → meets M (m .met) t ≡ false → length (m .met) < slots
     → placeNext M slots build o at t m
-      ≡ andThen M (build (length (m .met)) t (stored M t m)) (λ m'. room (linked M o at (length (m .met)) m'))
+    ≡ andThen M (build (length (m .met)) t (stored M t m)) (λ m'. room (linked M o at (length (m .met)) m'))
 unfolding placeNext
 next-new M slots build o at t m e h = rw (e, placeNext, lt-leb slots (length (m .met)) h)
 
@@ -102,9 +104,9 @@ state-final M slots (suc f) at s m q = rw (q, placeState)
 
 state-asking : (M : Machine) (slots f at : ℕ) (s : M .State) (m : Memory M) → M .asks s ≡ true
     → placeState M slots (suc f) at s m
-      ≡ andThen M (placeNext M slots (placeState M slots f) Holds at (M .step Holds s) m)
-        (λ m₁. andThen M (placeNext M slots (placeState M slots f) Fails at (M .step Fails s) m₁)
-        (λ m₂. placeNext M slots (placeState M slots f) Absent at (M .step Absent s) m₂))
+    ≡ andThen M (placeNext M slots (placeState M slots f) Holds at (M .step Holds s) m)
+    (λ m₁. andThen M (placeNext M slots (placeState M slots f) Fails at (M .step Fails s) m₁)
+    (λ m₂. placeNext M slots (placeState M slots f) Absent at (M .step Absent s) m₂))
 unfolding placeState placeWay placeNext
 state-asking M slots f at s m q = rw (q, placeState)
 
@@ -135,7 +137,7 @@ new-room : (M : Machine) (slots : ℕ) (build : ℕ → M .State → Memory M �
     → meets M met t ≡ false → length met < slots → length before ≡ at
     → build (length met) t (stored M t (memory met (before ++ r ∷ after))) ≡ room (memory out (before ++ r ∷ after ++ behind))
     → placeNext M slots build o at t (memory met (before ++ r ∷ after))
-      ≡ room (memory out (before ++ set r (nextWord o) (length met) ∷ (after ++ behind)))
+    ≡ room (memory out (before ++ set r (nextWord o) (length met) ∷ (after ++ behind)))
 unfolding andThen
 new-room M slots build o at t met out before after behind r e h hb built =
     rw (next-new M slots build o at t (memory met (before ++ r ∷ after)) e h, built, append-assoc before (r ∷ after) behind)
@@ -158,7 +160,7 @@ three-rooms : (M : Machine) (slots f : ℕ) (whole met a b c : List (M .State)) 
     → Rooms M slots f whole (met ++ s ∷ [] ++ a) (M .step Fails s) b
     → Rooms M slots f whole (met ++ s ∷ [] ++ a ++ b) (M .step Absent s) c
     → placeState M slots (suc f) (length met) s (memory (met ++ s ∷ []) (records ++ freshRecord M s ∷ []))
-      ≡ room (memory (met ++ s ∷ (a ++ b ++ c)) (records ++ map (recordOf M whole) (s ∷ (a ++ b ++ c))))
+    ≡ room (memory (met ++ s ∷ (a ++ b ++ c)) (records ++ map (recordOf M whole) (s ∷ (a ++ b ++ c))))
 three-rooms M slots f whole met a b c s records q fit h v w z =
     rw (← three-ways met s a b c, map-append (recordOf M whole) (a ++ b) c, map-append (recordOf M whole) a b, ← record-asking M whole s q fit)
     (state-rooms M slots f (length met) s _ _ _ _ q
@@ -178,7 +180,7 @@ built-room : (M : Machine) (slots f : ℕ) (whole met a b c : List (M .State)) (
     → RoomsIf M slots f whole (met ++ s ∷ [] ++ a) (M .step Fails s) b
     → RoomsIf M slots f whole (met ++ s ∷ [] ++ a ++ b) (M .step Absent s) c
     → placeState M slots (suc f) (length met) s (memory (met ++ s ∷ []) (records ++ freshRecord M s ∷ []))
-      ≡ room (memory (met ++ s ∷ (a ++ b ++ c)) (records ++ map (recordOf M whole) (s ∷ (a ++ b ++ c))))
+    ≡ room (memory (met ++ s ∷ (a ++ b ++ c)) (records ++ map (recordOf M whole) (s ∷ (a ++ b ++ c))))
 built-room M slots f whole met a b c s records q h fits begins bound v w z =
     let longer = longer-begins met a b c s (begins-refl (met ++ s ∷ (a ++ b ++ c))) in
     let inside = longer-begins met a b c s begins in
@@ -237,11 +239,11 @@ built-full M slots f met a b c s records q h fits one over v w full-a full-b ful
     long-a whole r = simp (length-append, length-map) (omega arith)
 
     long-b : (whole : List (M .State)) (r : List ℕ)
-      → length (records ++ r ∷ (map (recordOf M whole) a ++ map (recordOf M whole) b)) ≡ length (met ++ s ∷ [] ++ a ++ b)
+        → length (records ++ r ∷ (map (recordOf M whole) a ++ map (recordOf M whole) b)) ≡ length (met ++ s ∷ [] ++ a ++ b)
     long-b whole r = simp (length-append, length-map) (omega arith)
 
     go : (x y : Bool) → leb (length (met ++ s ∷ [] ++ a)) slots ≡ x → leb (length (met ++ s ∷ [] ++ a ++ b)) slots ≡ y
-      → placeState M slots (suc f) (length met) s (memory (met ++ s ∷ []) (records ++ freshRecord M s ∷ [])) ≡ full
+        → placeState M slots (suc f) (length met) s (memory (met ++ s ∷ []) (records ++ freshRecord M s ∷ [])) ≡ full
     go false y p p' =
         state-full M slots f (length met) s _ q
         (full-a fits-a (simp length-append (omega arith)) (leb-false _ slots p) Holds (length met) records [] (freshRecord M s) h long)
@@ -277,9 +279,9 @@ way-full M slots {f} {met} {t} (final e q) fits bound over o at before after r h
 way-full M slots {met} {t} (asking {f = f} {a = a} {b = b} {c = c} e q v w z) fits bound over o at before after r hb hl =
     new-full M slots (placeState M slots (suc f)) o at t (memory met (before ++ r ∷ after)) e
     (λ one. built-full M slots f met a b c t (before ++ r ∷ after) q hl fits one over v w
-            (λ fits bound over o at before after r hb hl. way-full M slots v fits bound over o at before after r hb hl)
-            (λ fits bound over o at before after r hb hl. way-full M slots w fits bound over o at before after r hb hl)
-            (λ fits bound over o at before after r hb hl. way-full M slots z fits bound over o at before after r hb hl))
+    (λ fits bound over o at before after r hb hl. way-full M slots v fits bound over o at before after r hb hl)
+    (λ fits bound over o at before after r hb hl. way-full M slots w fits bound over o at before after r hb hl)
+    (λ fits bound over o at before after r hb hl. way-full M slots z fits bound over o at before after r hb hl))
 
 -- The whole.
 
@@ -328,8 +330,8 @@ module _ {M : Machine} {Good : M .State → Type 0} {left : M .State → ℕ} (l
 
   pub placed-all : (slots f : ℕ) (s₀ : M .State) → Good s₀ → left s₀ < suc f
       → placeAll M slots f s₀
-        ≡ cond (leb (length (visit M (suc f) [] s₀)) slots)
-          (room (memory (visit M (suc f) [] s₀) (map (recordOf M (visit M (suc f) [] s₀)) (visit M (suc f) [] s₀)))) full
+      ≡ cond (leb (length (visit M (suc f) [] s₀)) slots)
+      (room (memory (visit M (suc f) [] s₀) (map (recordOf M (visit M (suc f) [] s₀)) (visit M (suc f) [] s₀)))) full
   placed-all slots f s₀ g h =
       let v = visits-exist law f [] s₀ g h in
       rw (visits-visit (v .1)) (placed-visits M slots (v .1) (λ s m. good-fit s (visits-good law (v .1) (each-nil Good) g s m)))

@@ -32,7 +32,7 @@ place-append M [] more s e = absurd (false≢true e)
 place-append M (x ∷ met) more s e = go (M .same x s) (λ r. place-append M met more s r) e
   where
     go : (b : Bool) → (meets M met s ≡ true → placeOf M (met ++ more) s ≡ placeOf M met s) → (b || meets M met s) ≡ true
-      → cond b 0 (placeOf M (met ++ more) s + 1) ≡ cond b 0 (placeOf M met s + 1)
+        → cond b 0 (placeOf M (met ++ more) s + 1) ≡ cond b 0 (placeOf M met s + 1)
     go true below r = refl
     go false below r = ap (λ (n : ℕ). n + 1) (below r)
 
@@ -43,7 +43,7 @@ place-new M [] more s e r = rw r
 place-new M (x ∷ met) more s e r = go (M .same x s) (λ n. place-new M met more s n r) e
   where
     go : (b : Bool) → (meets M met s ≡ false → placeOf M (met ++ s ∷ more) s ≡ length met) → (b || meets M met s) ≡ false
-      → cond b 0 (placeOf M (met ++ s ∷ more) s + 1) ≡ suc (length met)
+        → cond b 0 (placeOf M (met ++ s ∷ more) s + 1) ≡ suc (length met)
     go true below n = absurd (false≢true (sym n))
     go false below n = add-one _ ∙ ap suc (below n)
 
@@ -53,7 +53,7 @@ place-below M [] s e = absurd (false≢true e)
 place-below M (x ∷ met) s e = go (M .same x s) (λ r. place-below M met s r) e
   where
     go : (b : Bool) → (meets M met s ≡ true → placeOf M met s < length met) → (b || meets M met s) ≡ true
-      → cond b 0 (placeOf M met s + 1) < suc (length met)
+        → cond b 0 (placeOf M met s + 1) < suc (length met)
     go true below r = omega arith
     go false below r = omega (arith, below r)
 
@@ -89,7 +89,7 @@ module _ {M : Machine} {Good : M .State → Type 0} {left : M .State → ℕ} (l
   place-state (x ∷ met) s d good e = go (M .same x s) refl (λ r. place-state met s d (each-tail good) r) e
     where
       go : (b : Bool) → M .same x s ≡ b → (meets M met s ≡ true → getD met (placeOf M met s) d ≡ s) → (b || meets M met s) ≡ true
-        → getD (x ∷ met) (cond b 0 (placeOf M met s + 1)) d ≡ s
+          → getD (x ∷ met) (cond b 0 (placeOf M met s + 1)) d ≡ s
       go true q below r = law .same-eq x s (each-head good) q
       go false q below r = rw add-one (below r)
 

@@ -54,8 +54,8 @@ module _ {M : Machine} {Good : M .State → Type 0} {left : M .State → ℕ} (l
       (λ e. good)
       (λ e q. good1)
       (λ e q. visit-good f _ (M .step Absent s)
-              (visit-good f _ (M .step Fails s) (visit-good f _ (M .step Holds s) good1 (law .good-step Holds s g q)) (law .good-step Fails s g q))
-              (law .good-step Absent s g q))
+      (visit-good f _ (M .step Fails s) (visit-good f _ (M .step Holds s) good1 (law .good-step Holds s g q)) (law .good-step Fails s g q))
+      (law .good-step Absent s g q))
 
   visits-has : (met a b c : List (M .State)) (s : M .State) (o : Outcome) → Explored M (met ++ s ∷ []) (M .step Holds s) a
       → Explored M (met ++ s ∷ [] ++ a) (M .step Fails s) b → Explored M (met ++ s ∷ [] ++ a ++ b) (M .step Absent s) c
@@ -70,13 +70,13 @@ module _ {M : Machine} {Good : M .State → Type 0} {left : M .State → ℕ} (l
   visits-closed met a b c s v w z o t m q =
       ⊎-elim (λ (e : t ≡ s). Memᴰ·cast (ap (M .step o) e) (visits-has met a b c s o v w z))
       (λ (m : List·Memᴰ t (a ++ b ++ c)).
-        ⊎-elim
-        (λ (m : List·Memᴰ t (a ++ b)).
-          ⊎-elim (λ (m : List·Memᴰ t a). Memᴰ·append-left c (Memᴰ·append-left b (v .closed o t m q)))
-          (λ (m : List·Memᴰ t b). Memᴰ·append-left c (w .closed o t m q))
-          (List·Memᴰ·append-cases a m))
-        (λ (m : List·Memᴰ t c). z .closed o t m q)
-        (List·Memᴰ·append-cases (a ++ b) m))
+      ⊎-elim
+      (λ (m : List·Memᴰ t (a ++ b)).
+      ⊎-elim (λ (m : List·Memᴰ t a). Memᴰ·append-left c (Memᴰ·append-left b (v .closed o t m q)))
+      (λ (m : List·Memᴰ t b). Memᴰ·append-left c (w .closed o t m q))
+      (List·Memᴰ·append-cases a m))
+      (λ (m : List·Memᴰ t c). z .closed o t m q)
+      (List·Memᴰ·append-cases (a ++ b) m))
       (List·Memᴰ·cases-cons m)
 
   -- What a visit adds has all its ways met.
@@ -84,8 +84,10 @@ module _ {M : Machine} {Good : M .State → Type 0} {left : M .State → ℕ} (l
   visits-explored {met} {s} (old e) good g =
       record { has = Memᴰ·append-left [] (meets-mem law met s good e); closed = λ o t m q. absurd (List·Memᴰ·not-nil m) }
   visits-explored {met} {s} (final e n) good g =
-      record { has = Memᴰ·append-right met (List·Memᴰ·head refl);
-               closed = λ o t m q. absurd (false≢true (sym n ∙ sym (ap (M .asks) (List·Memᴰ·eq-of-singleton m)) ∙ q)) }
+      record {
+        has = Memᴰ·append-right met (List·Memᴰ·head refl);
+        closed = λ o t m q. absurd (false≢true (sym n ∙ sym (ap (M .asks) (List·Memᴰ·eq-of-singleton m)) ∙ q));
+      }
   visits-explored {met} {s} (asking {a = a} {b = b} {c = c} e n v w z) good g =
       let good1 = each-append met (s ∷ []) good (each-cons g (each-nil Good)) in
       let good2 = visits-good v good1 (law .good-step Holds s g n) in
@@ -93,8 +95,10 @@ module _ {M : Machine} {Good : M .State → Type 0} {left : M .State → ℕ} (l
       let v' = visits-explored v good1 (law .good-step Holds s g n) in
       let w' = visits-explored w good2 (law .good-step Fails s g n) in
       let z' = visits-explored z good3 (law .good-step Absent s g n) in
-      record { has = Memᴰ·append-right met (List·Memᴰ·head refl);
-               closed = λ o t m q. subst (λ (l : List (M .State)). List·Memᴰ (M .step o t) l) (three-ways met s a b c) (visits-closed met a b c s v' w' z' o t m q) }
+      record {
+        has = Memᴰ·append-right met (List·Memᴰ·head refl);
+        closed = λ o t m q. subst (λ (l : List (M .State)). List·Memᴰ (M .step o t) l) (three-ways met s a b c) (visits-closed met a b c s v' w' z' o t m q);
+      }
 
   pub visit-has : (f : ℕ) (met : List (M .State)) (s : M .State) → Each Good met → Good s → left s < f → meets M (visit M f met s) s ≡ true
   visit-has f met s each g h =

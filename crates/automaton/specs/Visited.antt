@@ -17,10 +17,10 @@ pub data Visits (M : Machine) : ℕ → List (M .State) → M .State → List (M
   old : {f : ℕ} {met : List (M .State)} {s : M .State} → meets M met s ≡ true → Visits M f met s []
   final : {f : ℕ} {met : List (M .State)} {s : M .State} → meets M met s ≡ false → M .asks s ≡ false → Visits M f met s (s ∷ [])
   asking : {f : ℕ} {met a b c : List (M .State)} {s : M .State} → meets M met s ≡ false → M .asks s ≡ true
-    → Visits M f (met ++ s ∷ []) (M .step Holds s) a
-    → Visits M f (met ++ s ∷ [] ++ a) (M .step Fails s) b
-    → Visits M f (met ++ s ∷ [] ++ a ++ b) (M .step Absent s) c
-    → Visits M (suc f) met s (s ∷ (a ++ b ++ c))
+      → Visits M f (met ++ s ∷ []) (M .step Holds s) a
+      → Visits M f (met ++ s ∷ [] ++ a) (M .step Fails s) b
+      → Visits M f (met ++ s ∷ [] ++ a ++ b) (M .step Absent s) c
+      → Visits M (suc f) met s (s ∷ (a ++ b ++ c))
 
 pub record Visit (M : Machine) (f : ℕ) (met : List (M .State)) (s : M .State) : Type 0 where
   pub news : List (M .State)
@@ -111,7 +111,7 @@ visit-distinct M (suc f) met s d =
     (λ e. d)
     (λ e q. distinct-append M s d e)
     (λ e q. visit-distinct M f _ (M .step Absent s)
-            (visit-distinct M f _ (M .step Fails s) (visit-distinct M f _ (M .step Holds s) (distinct-append M s d e))))
+    (visit-distinct M f _ (M .step Fails s) (visit-distinct M f _ (M .step Holds s) (distinct-append M s d e))))
 
 -- A derivation tells what a visit adds, and with enough fuel there is one.
 
@@ -146,7 +146,7 @@ module _ {M : Machine} {Good : M .State → Type 0} {left : M .State → ℕ} (l
   visits-exist (suc f) met s g h = go (λ met s g h. visits-exist f met s g h) (meets M met s) (M .asks s) refl refl
     where
       go : ((met : List (M .State)) (s : M .State) → Good s → left s < suc f → (news : List (M .State)) × Visits M f met s news)
-        → (b q : Bool) → meets M met s ≡ b → M .asks s ≡ q → (news : List (M .State)) × Visits M (suc f) met s news
+          → (b q : Bool) → meets M met s ≡ b → M .asks s ≡ q → (news : List (M .State)) × Visits M (suc f) met s news
       go below true q e eq = ([], old e)
       go below false false e eq = (s ∷ [], final e eq)
       go below false true e eq =
