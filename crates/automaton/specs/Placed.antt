@@ -1,6 +1,5 @@
 -- The builder places exactly the states met, each with its record, or finds no slot where they are more than the slots.
 --   memory met records  the two lists as a memory
---   placeNext           placeWay, by the state that the way leads to
 --   Fit M s             what placing asks of a state: it is the same as itself, and its question is four words
 use Prim.Native.Nat.{ℕ, zero, suc, _≤_, _<_}
 use native.Mathlib.Omega.{arith}
@@ -24,16 +23,6 @@ use Rattle.automaton.specs.Reaching.{visits-good}
 abbrev pub memory : {M : Machine} → List (M .State) → List (List ℕ) → Memory M
 memory met records = record { met = met; records = records }
 
-unfoldable placeNext : (M : Machine) → ℕ → (ℕ → M .State → Memory M → Placed M) → Outcome → ℕ → M .State → Memory M → Placed M
-placeNext M slots build o at t m =
-    elim (meets M (m .met) t) [
-      | true ↦ room (linked M o at (placeOf M (m .met) t) m)
-      | false ↦ elim (leb slots (length (m .met))) [
-        | true ↦ full
-        | false ↦ andThen M (build (length (m .met)) t (stored M t m)) (λ m'. room (linked M o at (length (m .met)) m'))
-      ]
-    ]
-
 pub record Fit (M : Machine) (s : M .State) : Type 0 where
   pub itself : M .same s s ≡ true
   pub four : length (M .question s) ≡ 4
@@ -41,15 +30,15 @@ pub record Fit (M : Machine) (s : M .State) : Type 0 where
 -- A way whose states all find room: they are stored behind those met, with their records by the numbers of any longer list.
 abbrev Rooms : (M : Machine) (slots f : ℕ) (whole met : List (M .State)) (t : M .State) (news : List (M .State)) → Type 0
 Rooms M slots f whole met t news =
-    (o : Outcome) (at : ℕ) (before after : List (List ℕ)) (r : List ℕ) → length before ≡ at → length (before ++ r ∷ after) ≡ length met
-    → placeNext M slots (placeState M slots f) o at t (memory met (before ++ r ∷ after))
+    (o : Outcome) (at : ℕ) (s : M .State) (before after : List (List ℕ)) (r : List ℕ) → M .step o s ≡ t → length before ≡ at → length (before ++ r ∷ after) ≡ length met
+    → placeWay M slots (placeState M slots f) o at s (memory met (before ++ r ∷ after))
     ≡ room (memory (met ++ news) (before ++ set r (nextWord o) (placeOf M whole t) ∷ (after ++ map (recordOf M whole) news)))
 
 -- A way with a state that finds no slot.
 abbrev Fulls : (M : Machine) (slots f : ℕ) (met : List (M .State)) (t : M .State) → Type 0
 Fulls M slots f met t =
-    (o : Outcome) (at : ℕ) (before after : List (List ℕ)) (r : List ℕ) → length before ≡ at → length (before ++ r ∷ after) ≡ length met
-    → placeNext M slots (placeState M slots f) o at t (memory met (before ++ r ∷ after)) ≡ full
+    (o : Outcome) (at : ℕ) (s : M .State) (before after : List (List ℕ)) (r : List ℕ) → M .step o s ≡ t → length before ≡ at → length (before ++ r ∷ after) ≡ length met
+    → placeWay M slots (placeState M slots f) o at s (memory met (before ++ r ∷ after)) ≡ full
 
 -- A record that gets its next numbers.
 
@@ -78,22 +67,22 @@ record-asking M whole s q fit = rw q (set-nexts (M .question s) (M .sets s) _ _ 
 
 -- One way, case by case.
 
-next-old : (M : Machine) (slots : ℕ) (build : ℕ → M .State → Memory M → Placed M) (o : Outcome) (at : ℕ) (t : M .State) (m : Memory M)
-    → meets M (m .met) t ≡ true → placeNext M slots build o at t m ≡ room (linked M o at (placeOf M (m .met) t) m)
-unfolding placeNext
-next-old M slots build o at t m e = rw (e, placeNext)
+way-old : (M : Machine) (slots : ℕ) (build : ℕ → M .State → Memory M → Placed M) (o : Outcome) (at : ℕ) (s t : M .State) (m : Memory M)
+    → M .step o s ≡ t → meets M (m .met) t ≡ true → placeWay M slots build o at s m ≡ room (linked M o at (placeOf M (m .met) t) m)
+unfolding placeWay
+way-old M slots build o at s t m leads e = rw (← leads, rw (← leads) at e, placeWay)
 
-next-full : (M : Machine) (slots : ℕ) (build : ℕ → M .State → Memory M → Placed M) (o : Outcome) (at : ℕ) (t : M .State) (m : Memory M)
-    → meets M (m .met) t ≡ false → slots ≤ length (m .met) → placeNext M slots build o at t m ≡ full
-unfolding placeNext
-next-full M slots build o at t m e h = rw (e, placeNext, le-leb slots (length (m .met)) h)
+way-slotless : (M : Machine) (slots : ℕ) (build : ℕ → M .State → Memory M → Placed M) (o : Outcome) (at : ℕ) (s t : M .State) (m : Memory M)
+    → M .step o s ≡ t → meets M (m .met) t ≡ false → slots ≤ length (m .met) → placeWay M slots build o at s m ≡ full
+unfolding placeWay
+way-slotless M slots build o at s t m leads e h = rw (rw (← leads) at e, placeWay, le-leb slots (length (m .met)) h)
 
-next-new : (M : Machine) (slots : ℕ) (build : ℕ → M .State → Memory M → Placed M) (o : Outcome) (at : ℕ) (t : M .State) (m : Memory M)
-    → meets M (m .met) t ≡ false → length (m .met) < slots
-    → placeNext M slots build o at t m
+way-new : (M : Machine) (slots : ℕ) (build : ℕ → M .State → Memory M → Placed M) (o : Outcome) (at : ℕ) (s t : M .State) (m : Memory M)
+    → M .step o s ≡ t → meets M (m .met) t ≡ false → length (m .met) < slots
+    → placeWay M slots build o at s m
     ≡ andThen M (build (length (m .met)) t (stored M t m)) (λ m'. room (linked M o at (length (m .met)) m'))
-unfolding placeNext
-next-new M slots build o at t m e h = rw (e, placeNext, lt-leb slots (length (m .met)) h)
+unfolding placeWay
+way-new M slots build o at s t m leads e h = rw (← leads, rw (← leads) at e, placeWay, lt-leb slots (length (m .met)) h)
 
 -- The ways of a state, case by case.
 
@@ -104,43 +93,43 @@ state-final M slots (suc f) at s m q = rw (q, placeState)
 
 state-asking : (M : Machine) (slots f at : ℕ) (s : M .State) (m : Memory M) → M .asks s ≡ true
     → placeState M slots (suc f) at s m
-    ≡ andThen M (placeNext M slots (placeState M slots f) Holds at (M .step Holds s) m)
-    (λ m₁. andThen M (placeNext M slots (placeState M slots f) Fails at (M .step Fails s) m₁)
-    (λ m₂. placeNext M slots (placeState M slots f) Absent at (M .step Absent s) m₂))
-unfolding placeState placeWay placeNext
+    ≡ andThen M (placeWay M slots (placeState M slots f) Holds at s m)
+    (λ m₁. andThen M (placeWay M slots (placeState M slots f) Fails at s m₁)
+    (λ m₂. placeWay M slots (placeState M slots f) Absent at s m₂))
+unfolding placeState
 state-asking M slots f at s m q = rw (q, placeState)
 
 state-full : (M : Machine) (slots f at : ℕ) (s : M .State) (m : Memory M) → M .asks s ≡ true
-    → placeNext M slots (placeState M slots f) Holds at (M .step Holds s) m ≡ full
+    → placeWay M slots (placeState M slots f) Holds at s m ≡ full
     → placeState M slots (suc f) at s m ≡ full
 unfolding andThen
 state-full M slots f at s m q v = rw (state-asking M slots f at s m q, v)
 
 state-room-full : (M : Machine) (slots f at : ℕ) (s : M .State) (m m₁ : Memory M) → M .asks s ≡ true
-    → placeNext M slots (placeState M slots f) Holds at (M .step Holds s) m ≡ room m₁
-    → placeNext M slots (placeState M slots f) Fails at (M .step Fails s) m₁ ≡ full
+    → placeWay M slots (placeState M slots f) Holds at s m ≡ room m₁
+    → placeWay M slots (placeState M slots f) Fails at s m₁ ≡ full
     → placeState M slots (suc f) at s m ≡ full
 unfolding andThen
 state-room-full M slots f at s m m₁ q v w = rw (state-asking M slots f at s m q, v, w)
 
 state-rooms : (M : Machine) (slots f at : ℕ) (s : M .State) (m m₁ m₂ : Memory M) (p : Placed M) → M .asks s ≡ true
-    → placeNext M slots (placeState M slots f) Holds at (M .step Holds s) m ≡ room m₁
-    → placeNext M slots (placeState M slots f) Fails at (M .step Fails s) m₁ ≡ room m₂
-    → placeNext M slots (placeState M slots f) Absent at (M .step Absent s) m₂ ≡ p
+    → placeWay M slots (placeState M slots f) Holds at s m ≡ room m₁
+    → placeWay M slots (placeState M slots f) Fails at s m₁ ≡ room m₂
+    → placeWay M slots (placeState M slots f) Absent at s m₂ ≡ p
     → placeState M slots (suc f) at s m ≡ p
 unfolding andThen
 state-rooms M slots f at s m m₁ m₂ p q v w z = rw (state-asking M slots f at s m q, v, w) z
 
 -- A new state that found room, with its record and those behind it.
-new-room : (M : Machine) (slots : ℕ) (build : ℕ → M .State → Memory M → Placed M) (o : Outcome) (at : ℕ) (t : M .State)
+new-room : (M : Machine) (slots : ℕ) (build : ℕ → M .State → Memory M → Placed M) (o : Outcome) (at : ℕ) (s t : M .State)
     (met out : List (M .State)) (before after behind : List (List ℕ)) (r : List ℕ)
-    → meets M met t ≡ false → length met < slots → length before ≡ at
+    → M .step o s ≡ t → meets M met t ≡ false → length met < slots → length before ≡ at
     → build (length met) t (stored M t (memory met (before ++ r ∷ after))) ≡ room (memory out (before ++ r ∷ after ++ behind))
-    → placeNext M slots build o at t (memory met (before ++ r ∷ after))
+    → placeWay M slots build o at s (memory met (before ++ r ∷ after))
     ≡ room (memory out (before ++ set r (nextWord o) (length met) ∷ (after ++ behind)))
 unfolding andThen
-new-room M slots build o at t met out before after behind r e h hb built =
-    rw (next-new M slots build o at t (memory met (before ++ r ∷ after)) e h, built, append-assoc before (r ∷ after) behind)
+new-room M slots build o at s t met out before after behind r leads e h hb built =
+    rw (way-new M slots build o at s t (memory met (before ++ r ∷ after)) leads e h, built, append-assoc before (r ∷ after) behind)
     (ap room (linked-at M o at (length met) out before (after ++ behind) r hb))
 
 longer-begins : {A : Type 0} (met a b c : List A) (s : A) {whole : List A} → Begins (met ++ s ∷ (a ++ b ++ c)) whole
@@ -164,9 +153,9 @@ three-rooms : (M : Machine) (slots f : ℕ) (whole met a b c : List (M .State)) 
 three-rooms M slots f whole met a b c s records q fit h v w z =
     rw (← three-ways met s a b c, map-append (recordOf M whole) (a ++ b) c, map-append (recordOf M whole) a b, ← record-asking M whole s q fit)
     (state-rooms M slots f (length met) s _ _ _ _ q
-    (v Holds (length met) records [] (freshRecord M s) h (simp length-append (omega arith)))
-    (w Fails (length met) records (map (recordOf M whole) a) _ h (simp (length-append, length-map) (omega arith)))
-    (z Absent (length met) records (map (recordOf M whole) a ++ map (recordOf M whole) b) _ h (simp (length-append, length-map) (omega arith))))
+    (v Holds (length met) s records [] (freshRecord M s) refl h (simp length-append (omega arith)))
+    (w Fails (length met) s records (map (recordOf M whole) a) _ refl h (simp (length-append, length-map) (omega arith)))
+    (z Absent (length met) s records (map (recordOf M whole) a ++ map (recordOf M whole) b) _ refl h (simp (length-append, length-map) (omega arith))))
 
 -- Where the states met fit the slots.
 
@@ -193,22 +182,22 @@ built-room M slots f whole met a b c s records q h fits begins bound v w z =
 way-room : (M : Machine) (slots : ℕ) (whole : List (M .State)) {f : ℕ} {met news : List (M .State)} {t : M .State}
     → Visits M f met t news → RoomsIf M slots f whole met t news
 unfolding stored
-way-room M slots whole {f} {met} {t} (old e) fits begins bound o at before after r hb hl =
+way-room M slots whole {f} {met} {t} (old e) fits begins bound o at s before after r leads hb hl =
     rw (append-nil met, append-nil after, place-begins M t (begins-trans (begins-append met []) begins) e)
-    (next-old M slots (placeState M slots f) o at t (memory met (before ++ r ∷ after)) e
+    (way-old M slots (placeState M slots f) o at s t (memory met (before ++ r ∷ after)) leads e
     ∙ ap room (linked-at M o at (placeOf M met t) met before after r hb))
-way-room M slots whole {f} {met} {t} (final e q) fits begins bound o at before after r hb hl =
+way-room M slots whole {f} {met} {t} (final e q) fits begins bound o at s before after r leads hb hl =
     rw (place-begins-new M met [] t begins e (each-head fits .itself), ← record-final M whole t q)
-    (new-room M slots (placeState M slots f) o at t met (met ++ t ∷ []) before after (freshRecord M t ∷ []) r e (new-bound met [] t slots bound) hb
+    (new-room M slots (placeState M slots f) o at s t met (met ++ t ∷ []) before after (freshRecord M t ∷ []) r leads e (new-bound met [] t slots bound) hb
     (state-final M slots f (length met) t _ q))
-way-room M slots whole {met} {t} (asking {f = f} {a = a} {b = b} {c = c} e q v w z) fits begins bound o at before after r hb hl =
+way-room M slots whole {met} {t} (asking {f = f} {a = a} {b = b} {c = c} e q v w z) fits begins bound o at s before after r leads hb hl =
     rw (place-begins-new M met (a ++ b ++ c) t begins e (each-head fits .itself))
-    (new-room M slots (placeState M slots (suc f)) o at t met (met ++ t ∷ (a ++ b ++ c)) before after (map (recordOf M whole) (t ∷ (a ++ b ++ c))) r e
+    (new-room M slots (placeState M slots (suc f)) o at s t met (met ++ t ∷ (a ++ b ++ c)) before after (map (recordOf M whole) (t ∷ (a ++ b ++ c))) r leads e
     (new-bound met (a ++ b ++ c) t slots bound) hb
     (built-room M slots f whole met a b c t (before ++ r ∷ after) q hl fits begins bound
-    (λ fits begins bound o at before after r hb hl. way-room M slots whole v fits begins bound o at before after r hb hl)
-    (λ fits begins bound o at before after r hb hl. way-room M slots whole w fits begins bound o at before after r hb hl)
-    (λ fits begins bound o at before after r hb hl. way-room M slots whole z fits begins bound o at before after r hb hl)))
+    (λ fits begins bound o at s before after r leads hb hl. way-room M slots whole v fits begins bound o at s before after r leads hb hl)
+    (λ fits begins bound o at s before after r leads hb hl. way-room M slots whole w fits begins bound o at s before after r leads hb hl)
+    (λ fits begins bound o at s before after r leads hb hl. way-room M slots whole z fits begins bound o at s before after r leads hb hl)))
 
 -- Where they are more than the slots.
 
@@ -246,42 +235,42 @@ built-full M slots f met a b c s records q h fits one over v w full-a full-b ful
         → placeState M slots (suc f) (length met) s (memory (met ++ s ∷ []) (records ++ freshRecord M s ∷ [])) ≡ full
     go false y p p' =
         state-full M slots f (length met) s _ q
-        (full-a fits-a (simp length-append (omega arith)) (leb-false _ slots p) Holds (length met) records [] (freshRecord M s) h long)
+        (full-a fits-a (simp length-append (omega arith)) (leb-false _ slots p) Holds (length met) s records [] (freshRecord M s) refl h long)
     go true false p p' =
         let whole = met ++ s ∷ [] ++ a in
         state-room-full M slots f (length met) s _ _ q
-        (way-room M slots whole v fits-a (begins-refl whole) (leb-true _ slots p) Holds (length met) records [] (freshRecord M s) h long)
-        (full-b fits-b (leb-true _ slots p) (leb-false _ slots p') Fails (length met) records (map (recordOf M whole) a) _ h (long-a whole _))
+        (way-room M slots whole v fits-a (begins-refl whole) (leb-true _ slots p) Holds (length met) s records [] (freshRecord M s) refl h long)
+        (full-b fits-b (leb-true _ slots p) (leb-false _ slots p') Fails (length met) s records (map (recordOf M whole) a) _ refl h (long-a whole _))
     go true true p p' =
         let whole = met ++ s ∷ [] ++ a ++ b in
         state-rooms M slots f (length met) s _ _ _ full q
-        (way-room M slots whole v fits-a (begins-append (met ++ s ∷ [] ++ a) b) (leb-true _ slots p) Holds (length met) records [] (freshRecord M s) h long)
-        (way-room M slots whole w fits-b (begins-refl whole) (leb-true _ slots p') Fails (length met) records (map (recordOf M whole) a) _ h (long-a whole _))
+        (way-room M slots whole v fits-a (begins-append (met ++ s ∷ [] ++ a) b) (leb-true _ slots p) Holds (length met) s records [] (freshRecord M s) refl h long)
+        (way-room M slots whole w fits-b (begins-refl whole) (leb-true _ slots p') Fails (length met) s records (map (recordOf M whole) a) _ refl h (long-a whole _))
         (full-c (each-right (a ++ b) c (each-tail fits)) (leb-true _ slots p') (rw (three-ways met s a b c) over)
-        Absent (length met) records (map (recordOf M whole) a ++ map (recordOf M whole) b) _ h (long-b whole _))
+        Absent (length met) s records (map (recordOf M whole) a ++ map (recordOf M whole) b) _ refl h (long-b whole _))
 
-new-full : (M : Machine) (slots : ℕ) (build : ℕ → M .State → Memory M → Placed M) (o : Outcome) (at : ℕ) (t : M .State) (m : Memory M)
-    → meets M (m .met) t ≡ false → (length (m .met) < slots → build (length (m .met)) t (stored M t m) ≡ full)
-    → placeNext M slots build o at t m ≡ full
+new-full : (M : Machine) (slots : ℕ) (build : ℕ → M .State → Memory M → Placed M) (o : Outcome) (at : ℕ) (s t : M .State) (m : Memory M)
+    → M .step o s ≡ t → meets M (m .met) t ≡ false → (length (m .met) < slots → build (length (m .met)) t (stored M t m) ≡ full)
+    → placeWay M slots build o at s m ≡ full
 unfolding andThen
-new-full M slots build o at t m e built = go (leb slots (length (m .met))) refl
+new-full M slots build o at s t m leads e built = go (leb slots (length (m .met))) refl
   where
-    go : (b : Bool) → leb slots (length (m .met)) ≡ b → placeNext M slots build o at t m ≡ full
-    go true h = next-full M slots build o at t m e (leb-true _ _ h)
-    go false h = rw (next-new M slots build o at t m e (leb-false _ _ h), built (leb-false _ _ h))
+    go : (b : Bool) → leb slots (length (m .met)) ≡ b → placeWay M slots build o at s m ≡ full
+    go true h = way-slotless M slots build o at s t m leads e (leb-true _ _ h)
+    go false h = rw (way-new M slots build o at s t m leads e (leb-false _ _ h), built (leb-false _ _ h))
 
 way-full : (M : Machine) (slots : ℕ) {f : ℕ} {met news : List (M .State)} {t : M .State} → Visits M f met t news → FullsIf M slots f met t news
 unfolding stored
-way-full M slots {met} (old e) fits bound over o at before after r hb hl =
+way-full M slots {met} (old e) fits bound over o at s before after r leads hb hl =
     absurd (omega (arith, length-append met []))
-way-full M slots {f} {met} {t} (final e q) fits bound over o at before after r hb hl =
-    next-full M slots (placeState M slots f) o at t (memory met (before ++ r ∷ after)) e (omega (arith, length-append met (t ∷ [])))
-way-full M slots {met} {t} (asking {f = f} {a = a} {b = b} {c = c} e q v w z) fits bound over o at before after r hb hl =
-    new-full M slots (placeState M slots (suc f)) o at t (memory met (before ++ r ∷ after)) e
+way-full M slots {f} {met} {t} (final e q) fits bound over o at s before after r leads hb hl =
+    way-slotless M slots (placeState M slots f) o at s t (memory met (before ++ r ∷ after)) leads e (omega (arith, length-append met (t ∷ [])))
+way-full M slots {met} {t} (asking {f = f} {a = a} {b = b} {c = c} e q v w z) fits bound over o at s before after r leads hb hl =
+    new-full M slots (placeState M slots (suc f)) o at s t (memory met (before ++ r ∷ after)) leads e
     (λ one. built-full M slots f met a b c t (before ++ r ∷ after) q hl fits one over v w
-    (λ fits bound over o at before after r hb hl. way-full M slots v fits bound over o at before after r hb hl)
-    (λ fits bound over o at before after r hb hl. way-full M slots w fits bound over o at before after r hb hl)
-    (λ fits bound over o at before after r hb hl. way-full M slots z fits bound over o at before after r hb hl))
+    (λ fits bound over o at s before after r leads hb hl. way-full M slots v fits bound over o at s before after r leads hb hl)
+    (λ fits bound over o at s before after r leads hb hl. way-full M slots w fits bound over o at s before after r leads hb hl)
+    (λ fits bound over o at s before after r leads hb hl. way-full M slots z fits bound over o at s before after r leads hb hl))
 
 -- The whole.
 
