@@ -1,7 +1,7 @@
 pub mod States
 pub mod Runs
 pub mod Assumed
-pub mod Dividing
+pub mod Ranked
 pub mod Standings
 pub mod Well
 pub mod Measure

@@ -5,6 +5,7 @@ use mathlib.Core.Bool.{Bool, true, false, cond, false≢true}
 use mathlib.Core.List.{List, [], _∷_, map}
 use native.Mathlib.Nat.{not-suc-le-zero, le-of-suc-le-suc}
 use lib.ListN.{length}
+use Rattle.residue.specs.Choice.{by-cond, never}
 use Rattle.residue.specs.declared.Reading.{Reading}
 use Rattle.residue.specs.declared.Fact.{Fact}
 use Rattle.residue.specs.declared.Outcome.{Outcome}
@@ -12,9 +13,7 @@ use Rattle.lists.specs.Filters.{Item, Filter}
 use Rattle.lists.specs.Ranks.{above}
 use Rattle.states.specs.States.{Standing, out, left, State, standing, isHeld, isOut, cut, cutStanding, beaten, closed, allLeft, start, Question, nothing, ask, questionOf, stepBy, sure}
 use Rattle.states.specs.Runs.{wayOf, advanceAt, advance, run}
-use Rattle.states.specs.Assumed.{by-cond, never}
-use Rattle.states.specs.Dividing.{factBy}
-use Rattle.states.specs.Standings.{divided, step-closes, standing-divided, standing-closed, beaten-where, where-beaten}
+use Rattle.states.specs.Standings.{factBy, divided, step-closes, standing-divided, standing-closed, beaten-where, where-beaten}
 use Rattle.states.specs.Sure.{clash, not-held-out, Shut, sure-held, sure-above, held-sure}
 
 -- ---- closing

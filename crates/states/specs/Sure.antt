@@ -11,6 +11,7 @@ use native.Mathlib.Omega.{arith}
 use lib.Dec.{ltb}
 use lib.ListN.{length}
 use borrow.Author.Tests.{ltb-true, not-true, not-false}
+use Rattle.residue.specs.Choice.{never, same-bool, both, first, second}
 use Rattle.residue.specs.declared.Reading.{Reading}
 use Rattle.residue.specs.declared.Outcome.{Outcome}
 use Rattle.sets.specs.Sets.{some}
@@ -18,8 +19,7 @@ use Rattle.sets.specs.Laws.{some-true, some-false, some-where, some-none}
 use Rattle.lists.specs.Filters.{Item, Filter}
 use Rattle.lists.specs.Ranks.{testsOf, above, allHold, fires, matches}
 use Rattle.states.specs.States.{Standing, out, left, State, standing, isHeld, isOut, beaten, closed, start, allLeft, Question, nothing, ask, questionOf, stepBy, sure, isOpen}
-use Rattle.states.specs.Assumed.{never, same-bool, both, first, second}
-use Rattle.states.specs.Dividing.{Ranked}
+use Rattle.states.specs.Ranked.{Ranked}
 use Rattle.states.specs.Well.{none-asked}
 use Rattle.states.specs.Truth.{Says, Tells, held-fires}
 

@@ -10,6 +10,8 @@ use borrow.Author.Tests.{eqb-true}
 use Rattle.residue.specs.Tests.{wellFormed}
 use Rattle.residue.specs.Facts.{wellKnown}
 use Rattle.residue.specs.Residues.{residueBy, wellLeft}
+use Rattle.residue.specs.Choice.{by-cond, both, first, second}
+use Rattle.residue.specs.Laws.{fact-well, residue-well}
 use Rattle.residue.specs.declared.Test.{Test}
 use Rattle.residue.specs.declared.Reading.{Reading}
 use Rattle.residue.specs.declared.Fact.{Fact}
@@ -20,8 +22,8 @@ use Rattle.fields.specs.Widths.{full, fieldCount}
 use Rattle.lists.specs.Filters.{Item, Filter}
 use Rattle.states.specs.States.{Standing, out, left, State, standing, keep, join, cut, cutStanding, beaten, closedFrom, closed, allLeft, start, Question, nothing, ask, questionOf, stepBy, stepAt, step}
 use Rattle.states.specs.Runs.{wayOf, advanceAt, advance, run, follow}
-use Rattle.states.specs.Assumed.{by-cond, both, first, second, wellItem, wellItems, wellFilters}
-use Rattle.states.specs.Dividing.{Dividing, factBy}
+use Rattle.states.specs.Assumed.{wellItem, wellItems, wellFilters}
+use Rattle.states.specs.Standings.{factBy}
 
 unfoldable pub wellStanding : Standing → Bool
 wellStanding out = true
@@ -117,68 +119,67 @@ well-join n True x l h g = g
 well-join n False x l h g = refl
 well-join n (Left u) x l h g = well-keep (record { field = n; test = u }) x (both (ltb n fieldCount) (wellFormed (full n) u) l h) g
 
-module _ (𝒟 : Dividing) where
-  well-cut :
-      (n : ℕ) (k : Fact) (ts : List Item) → ltb n fieldCount ≡ true → wellKnown (full n) k ≡ true → wellItems ts ≡ true → wellStanding (cut n k ts) ≡ true
-  unfolding wellItems wellStanding cut
-  well-cut n k [] l g h = refl
-  well-cut n k (t ∷ ts) l g h =
-      let ht = first (wellItem t) (wellItems ts) h in
-      let hs = well-cut n k ts l g (second (wellItem t) (wellItems ts) h) in
-      by-cond (λ (x : Standing). wellStanding x ≡ true) (eqb (t .field) n)
-      (λ e. well-join n (residueBy (full n) k (t .test)) (cut n k ts) l (𝒟 .keeps n k (t .test) g (item-on n t e ht)) hs)
-      (λ _. well-keep t (cut n k ts) ht hs)
+well-cut :
+    (n : ℕ) (k : Fact) (ts : List Item) → ltb n fieldCount ≡ true → wellItems ts ≡ true → wellStanding (cut n k ts) ≡ true
+unfolding wellItems wellStanding cut
+well-cut n k [] l h = refl
+well-cut n k (t ∷ ts) l h =
+    let ht = first (wellItem t) (wellItems ts) h in
+    let hs = well-cut n k ts l (second (wellItem t) (wellItems ts) h) in
+    by-cond (λ (x : Standing). wellStanding x ≡ true) (eqb (t .field) n)
+    (λ e. well-join n (residueBy (full n) k (t .test)) (cut n k ts) l (residue-well (full n) k (t .test) (item-on n t e ht)) hs)
+    (λ _. well-keep t (cut n k ts) ht hs)
 
-  well-cutStanding :
-      (n : ℕ) (k : Fact) (x : Standing) → ltb n fieldCount ≡ true → wellKnown (full n) k ≡ true → wellStanding x ≡ true → wellStanding (cutStanding n k x) ≡ true
-  unfolding wellStanding cutStanding
-  well-cutStanding n k out l g h = refl
-  well-cutStanding n k (left ts) l g h = well-cut n k ts l g h
+well-cutStanding :
+    (n : ℕ) (k : Fact) (x : Standing) → ltb n fieldCount ≡ true → wellStanding x ≡ true → wellStanding (cutStanding n k x) ≡ true
+unfolding wellStanding cutStanding
+well-cutStanding n k out l h = refl
+well-cutStanding n k (left ts) l h = well-cut n k ts l h
 
-  well-map :
-      (n : ℕ) (k : Fact) (s : State) → ltb n fieldCount ≡ true → wellKnown (full n) k ≡ true → wellState s ≡ true → wellState (map (cutStanding n k) s) ≡ true
-  unfolding wellState
-  well-map n k [] l g h = refl
-  well-map n k (x ∷ s) l g h =
-      both (wellStanding (cutStanding n k x)) (wellState (map (cutStanding n k) s))
-      (well-cutStanding n k x l g (first (wellStanding x) (wellState s) h))
-      (well-map n k s l g (second (wellStanding x) (wellState s) h))
+well-map :
+    (n : ℕ) (k : Fact) (s : State) → ltb n fieldCount ≡ true → wellState s ≡ true → wellState (map (cutStanding n k) s) ≡ true
+unfolding wellState
+well-map n k [] l h = refl
+well-map n k (x ∷ s) l h =
+    both (wellStanding (cutStanding n k x)) (wellState (map (cutStanding n k) s))
+    (well-cutStanding n k x l (first (wellStanding x) (wellState s) h))
+    (well-map n k s l (second (wellStanding x) (wellState s) h))
 
-  pub fact-known : (o : Outcome) (q : Item) → wellItem q ≡ true → wellKnown (full (q .field)) (factBy o q) ≡ true
-  fact-known o q h = 𝒟 .known (q .field) o (q .test) (item-test q h)
+pub fact-known : (o : Outcome) (q : Item) → wellItem q ≡ true → wellKnown (full (q .field)) (factBy o q) ≡ true
+fact-known o q h = fact-well (full (q .field)) o (q .test) (item-test q h)
 
-  pub well-step : (fs : List Filter) (o : Outcome) (q : Item) (s : State) → wellItem q ≡ true → wellState s ≡ true → wellState (stepBy fs o q s) ≡ true
-  unfolding stepBy
-  well-step fs o q s hq h =
-      well-closed fs (map (cutStanding (q .field) (factBy o q)) s) (well-map (q .field) (factBy o q) s (item-field q hq) (fact-known o q hq) h)
+pub well-step : (fs : List Filter) (o : Outcome) (q : Item) (s : State) → wellItem q ≡ true → wellState s ≡ true → wellState (stepBy fs o q s) ≡ true
+unfolding stepBy
+well-step fs o q s hq h =
+    well-closed fs (map (cutStanding (q .field) (factBy o q)) s) (well-map (q .field) (factBy o q) s (item-field q hq) h)
 
-  -- A step by the state's own question, whatever it is.
-  well-at :
-      (fs : List Filter) (o : Outcome) (a : Question) (s : State) → questionOf s ≡ a → wellState s ≡ true → wellState (stepAt fs o a s) ≡ true
-  unfolding stepAt
-  well-at fs o nothing s e h = h
-  well-at fs o (ask q) s e h = well-step fs o q s (well-question s q h e) h
+-- A step by the state's own question, whatever it is.
+well-at :
+    (fs : List Filter) (o : Outcome) (a : Question) (s : State) → questionOf s ≡ a → wellState s ≡ true → wellState (stepAt fs o a s) ≡ true
+unfolding stepAt
+well-at fs o nothing s e h = h
+well-at fs o (ask q) s e h = well-step fs o q s (well-question s q h e) h
 
-  pub well-next : (fs : List Filter) (o : Outcome) (s : State) → wellState s ≡ true → wellState (step fs o s) ≡ true
-  unfolding step
-  well-next fs o s h = well-at fs o (questionOf s) s refl h
+pub well-next : (fs : List Filter) (o : Outcome) (s : State) → wellState s ≡ true → wellState (step fs o s) ≡ true
+unfolding step
+well-next fs o s h = well-at fs o (questionOf s) s refl h
 
-  pub well-follow : (fs : List Filter) (os : List Outcome) (s : State) → wellState s ≡ true → wellState (follow fs os s) ≡ true
-  unfolding follow
-  well-follow fs [] s h = h
-  well-follow fs (o ∷ os) s h = well-follow fs os (step fs o s) (well-next fs o s h)
+pub well-follow : (fs : List Filter) (os : List Outcome) (s : State) → wellState s ≡ true → wellState (follow fs os s) ≡ true
+unfolding follow
+well-follow fs [] s h = h
+well-follow fs (o ∷ os) s h = well-follow fs os (step fs o s) (well-next fs o s h)
 
-  well-advanceAt :
-      (fs : List Filter) (r : ℕ → Reading) (a : Question) (s : State) → questionOf s ≡ a → wellState s ≡ true → wellState (advanceAt fs r a s) ≡ true
-  unfolding advanceAt
-  well-advanceAt fs r nothing s e h = h
-  well-advanceAt fs r (ask q) s e h = well-step fs (wayOf r q) q s (well-question s q h e) h
+well-advanceAt :
+    (fs : List Filter) (r : ℕ → Reading) (a : Question) (s : State) → questionOf s ≡ a → wellState s ≡ true → wellState (advanceAt fs r a s) ≡ true
+unfolding advanceAt
+well-advanceAt fs r nothing s e h = h
+well-advanceAt fs r (ask q) s e h = well-step fs (wayOf r q) q s (well-question s q h e) h
 
-  pub well-advance : (fs : List Filter) (r : ℕ → Reading) (s : State) → wellState s ≡ true → wellState (advance fs r s) ≡ true
-  unfolding advance
-  well-advance fs r s h = well-advanceAt fs r (questionOf s) s refl h
+pub well-advance : (fs : List Filter) (r : ℕ → Reading) (s : State) → wellState s ≡ true → wellState (advance fs r s) ≡ true
+unfolding advance
+well-advance fs r s h = well-advanceAt fs r (questionOf s) s refl h
 
-  pub well-run : (fs : List Filter) (r : ℕ → Reading) (n : ℕ) (s : State) → wellState s ≡ true → wellState (run fs r n s) ≡ true
-  unfolding run
-  well-run fs r zero s h = h
-  well-run fs r (suc n) s h = well-run fs r n (advance fs r s) (well-advance fs r s h)
+pub well-run : (fs : List Filter) (r : ℕ → Reading) (n : ℕ) (s : State) → wellState s ≡ true → wellState (run fs r n s) ≡ true
+unfolding run
+well-run fs r zero s h = h
+well-run fs r (suc n) s h = well-run fs r n (advance fs r s) (well-advance fs r s h)
