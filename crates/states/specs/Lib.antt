@@ -3,6 +3,8 @@ pub mod Runs
 pub mod Assumed
 pub mod Ranked
 pub mod Standings
+pub mod Keeps
+pub mod Every
 pub mod Well
 pub mod Measure
 pub mod Truth

@@ -25,7 +25,8 @@ use Rattle.states.specs.States.{Standing, out, left, State, keep, join, 
 use Rattle.states.specs.Runs.{wayOf, advanceAt, advance, run, askedAt, askedIn, follow}
 use Rattle.states.specs.Assumed.{wellItem, wellFilters}
 use Rattle.states.specs.Standings.{factBy}
-use Rattle.states.specs.Well.{wellState, item-test, well-start, none-asked, by-question, well-question, well-step, well-advance, well-next}
+use Rattle.states.specs.Well.{wellState, item-test, well-start, well-question, well-advance, well-next}
+use Rattle.states.specs.Keeps.{none-asked, by-question}
 
 -- ---- dividing and closing add no test
 

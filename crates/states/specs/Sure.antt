@@ -20,7 +20,7 @@ use Rattle.lists.specs.Filters.{Item, Filter}
 use Rattle.lists.specs.Ranks.{testsOf, above, allHold, fires, matches}
 use Rattle.states.specs.States.{Standing, out, left, State, standing, isHeld, isOut, beaten, closed, start, allLeft, Question, nothing, ask, questionOf, stepBy, sure, isOpen}
 use Rattle.states.specs.Ranked.{Ranked}
-use Rattle.states.specs.Well.{none-asked}
+use Rattle.states.specs.Keeps.{none-asked}
 use Rattle.states.specs.Truth.{Says, Tells, held-fires}
 
 -- A test decides.

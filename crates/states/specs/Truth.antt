@@ -28,10 +28,12 @@ use Rattle.fields.specs.Widths.{width, full}
 use Rattle.lists.specs.Filters.{Item, Filter}
 use Rattle.lists.specs.Ranks.{testsOf, above, allHold, fires}
 use Rattle.states.specs.States.{Standing, out, left, State, standing, isHeld, keep, join, cut, cutStanding, beaten, closed, allLeft, start, Question, nothing, ask, questionOf, stepBy}
-use Rattle.states.specs.Runs.{wayOf, advanceAt, advance, run}
-use Rattle.states.specs.Assumed.{wellItem, wellItems, wellFilters}
+use Rattle.states.specs.Runs.{wayOf, run}
+use Rattle.states.specs.Assumed.{wellItem}
 use Rattle.states.specs.Standings.{factBy, divided, step-closes, standing-divided, standing-closed, standing-all, standing-beyond, beaten-where}
-use Rattle.states.specs.Well.{wellStanding, wellState, well-standing, item-test, item-on, fact-known, well-start, well-question, well-advance}
+use Rattle.states.specs.Well.{wellState, item-on, fact-known, well-question, well-step}
+use Rattle.states.specs.Every.{everyItem, everyStanding, every-standing}
+use Rattle.states.specs.Keeps.{run-keeps}
 
 unfoldable pub holdsIn : (ℕ → Reading) → Standing → Bool
 holdsIn r out = false
@@ -121,12 +123,12 @@ module _ (fs : List Filter) (r : ℕ → Reading) where
 
   module _ (w : InWidths r) where
     cut-holds :
-        (n : ℕ) (k : Fact) (ts : List Item) → wellKnown (full n) k ≡ true → isSo k (r n) ≡ true → wellItems ts ≡ true → holdsIn r (cut n k ts) ≡ allHold r ts
-    unfolding cut holdsIn allHold wellItems
+        (n : ℕ) (k : Fact) (ts : List Item) → wellKnown (full n) k ≡ true → isSo k (r n) ≡ true → everyItem wellItem ts ≡ true → holdsIn r (cut n k ts) ≡ allHold r ts
+    unfolding cut holdsIn allHold everyItem
     cut-holds n k [] g so h = refl
     cut-holds n k (t ∷ ts) g so h =
-        let ht = first (wellItem t) (wellItems ts) h in
-        let hs = cut-holds n k ts g so (second (wellItem t) (wellItems ts) h) in
+        let ht = first (wellItem t) (everyItem wellItem ts) h in
+        let hs = cut-holds n k ts g so (second (wellItem t) (everyItem wellItem ts) h) in
         by-cond (λ (x : Standing). holdsIn r x ≡ (holdsOf (t .test) (r (t .field)) && allHold r ts)) (eqb (t .field) n)
         (λ e.
           join-holds n (residueBy (full n) k (t .test)) (cut n k ts) ∙
@@ -136,9 +138,9 @@ module _ (fs : List Filter) (r : ℕ → Reading) where
         (λ _. keep-holds t (cut n k ts) ∙ ap (λ (b : Bool). holdsOf (t .test) (r (t .field)) && b) hs)
 
     cut-says :
-        (n : ℕ) (k : Fact) (x : Standing) (i : ℕ) → wellKnown (full n) k ≡ true → isSo k (r n) ≡ true → wellStanding x ≡ true → Says fs r x i →
+        (n : ℕ) (k : Fact) (x : Standing) (i : ℕ) → wellKnown (full n) k ≡ true → isSo k (r n) ≡ true → everyStanding wellItem x ≡ true → Says fs r x i →
         Says fs r (cutStanding n k x) i
-    unfolding cutStanding wellStanding
+    unfolding cutStanding everyStanding
     cut-says n k out i g so h t = t
     cut-says n k (left ts) i g so h t = says-so (cut n k ts) i (t ∙ sym (cut-holds n k ts g so h))
 
@@ -151,20 +153,15 @@ module _ (fs : List Filter) (r : ℕ → Reading) where
         (tells-closed (divided o q s)
         (λ i.
           rw (standing-divided o q s i)
-          (cut-says n (factBy o q) (standing s i) i (fact-known o q hq) (outcome-fact-so (full n) (q .test) (r n) (w n)) (well-standing s i h) (t i))))
+          (cut-says n (factBy o q) (standing s i) i (fact-known o q hq) (outcome-fact-so (full n) (q .test) (r n) (w n)) (every-standing wellItem s i h) (t i))))
 
     -- ---- the path of the frame
 
-    tells-advanceAt : (a : Question) (s : State) → questionOf s ≡ a → wellState s ≡ true → Tells fs r s → Tells fs r (advanceAt fs r a s)
-    unfolding advanceAt
-    tells-advanceAt nothing s e h t = t
-    tells-advanceAt (ask q) s e h t = tells-step q s (well-question s q h e) h t
-
-    pub tells-advance : (s : State) → wellState s ≡ true → Tells fs r s → Tells fs r (advance fs r s)
-    unfolding advance
-    tells-advance s h t = tells-advanceAt (questionOf s) s refl h t
+    -- A well-formed state that tells the truth goes to one.
+    good-run : (n : ℕ) (s : State) → (wellState s ≡ true) × Tells fs r s → (wellState (run fs r n s) ≡ true) × Tells fs r (run fs r n s)
+    good-run n s g =
+        run-keeps fs r (λ (x : State). (wellState x ≡ true) × Tells fs r x)
+        (λ q x e g. (well-step fs (wayOf r q) q x (g .0), tells-step q x (well-question x q (g .0) e) (g .0) (g .1))) n s g
 
     pub tells-run : (n : ℕ) (s : State) → wellState s ≡ true → Tells fs r s → Tells fs r (run fs r n s)
-    unfolding run
-    tells-run zero s h t = t
-    tells-run (suc n) s h t = tells-run n (advance fs r s) (well-advance fs r s h) (tells-advance s h t)
+    tells-run n s h t = good-run n s (h, t) .1
