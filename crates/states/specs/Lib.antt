@@ -1,7 +1,5 @@
 pub mod States
 pub mod Runs
-pub mod Assumed
-pub mod Ranked
 pub mod Standings
 pub mod Keeps
 pub mod Every
@@ -10,3 +8,4 @@ pub mod Measure
 pub mod Truth
 pub mod Sure
 pub mod Stays
+pub mod Paths

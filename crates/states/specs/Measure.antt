@@ -20,10 +20,10 @@ use Rattle.residue.specs.declared.Outcome.{Outcome}
 use Rattle.residue.specs.declared.Residue.{Residue}
 use Rattle.residue.specs.declared.Residue.the-variants.{True, False, Left}
 use Rattle.fields.specs.Widths.{full}
+use Rattle.lists.specs.Accepted.{wellItem, wellFilters}
 use Rattle.lists.specs.Filters.{Item, Filter, testsIn}
 use Rattle.states.specs.States.{Standing, out, left, State, keep, join, cut, cutStanding, beaten, closedFrom, closed, allLeft, start, Question, nothing, ask, questionOf, stepBy, stepAt, step, remainingIn, remaining}
 use Rattle.states.specs.Runs.{wayOf, advanceAt, advance, run, askedAt, askedIn, follow}
-use Rattle.states.specs.Assumed.{wellItem, wellFilters}
 use Rattle.states.specs.Standings.{factBy}
 use Rattle.states.specs.Well.{wellState, item-test, well-start, well-question, well-advance, well-next}
 use Rattle.states.specs.Keeps.{none-asked, by-question}

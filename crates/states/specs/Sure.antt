@@ -17,9 +17,9 @@ use Rattle.residue.specs.declared.Outcome.{Outcome}
 use Rattle.sets.specs.Sets.{some}
 use Rattle.sets.specs.Laws.{some-true, some-false, some-where, some-none}
 use Rattle.lists.specs.Filters.{Item, Filter}
+use Rattle.lists.specs.Laws.{above-irreflexive, above-transitive}
 use Rattle.lists.specs.Ranks.{testsOf, above, allHold, fires, matches}
 use Rattle.states.specs.States.{Standing, out, left, State, standing, isHeld, isOut, beaten, closed, start, allLeft, Question, nothing, ask, questionOf, stepBy, sure, isOpen}
-use Rattle.states.specs.Ranked.{Ranked}
 use Rattle.states.specs.Keeps.{none-asked}
 use Rattle.states.specs.Truth.{Says, Tells, held-fires}
 
@@ -108,10 +108,10 @@ pub record Top (fs : List Filter) (r : ℕ → Reading) (m i k : ℕ) : Type 0 w
   pub over : (k ≡ i) ⊎ (above fs k i ≡ true)
   pub best : (j : ℕ) → j < m → above fs j k ≡ true → fires fs r j ≡ true → ⊥
 
-module _ (fs : List Filter) (ℛ : Ranked fs) (r : ℕ → Reading) where
+module _ (fs : List Filter) (r : ℕ → Reading) where
   over-over : (i j k : ℕ) → above fs k j ≡ true → (j ≡ i) ⊎ (above fs j i ≡ true) → above fs k i ≡ true
   over-over i j k a (inl e) = subst (λ (n : ℕ). above fs k n ≡ true) e a
-  over-over i j k a (inr b) = ℛ .transitive k j i a b
+  over-over i j k a (inr b) = above-transitive fs k j i a b
 
   climb : (m i k : ℕ) → Top fs r m i k → (k′ : ℕ) × Top fs r (suc m) i k′
   climb m i k t =
@@ -123,8 +123,8 @@ module _ (fs : List Filter) (ℛ : Ranked fs) (r : ℕ → Reading) where
           fired = second (above fs m k) (fires fs r m) e;
           over = inr (over-over i k m a (t .over));
           best = λ j l b f. ⊎-elim
-            (λ (z : j ≡ m). clash (above fs m m) (subst (λ (n : ℕ). above fs n m ≡ true) z b) (ℛ .irreflexive m))
-            (λ (z : j < m). t .best j z (ℛ .transitive j m k b a) f)
+            (λ (z : j ≡ m). clash (above fs m m) (subst (λ (n : ℕ). above fs n m ≡ true) z b) (above-irreflexive fs m))
+            (λ (z : j < m). t .best j z (above-transitive fs j m k b a) f)
             (eq-or-lt-of-le (le-of-suc-le-suc l)) }))
       (λ e.
         (k,
@@ -160,7 +160,7 @@ module _ (fs : List Filter) (ℛ : Ranked fs) (r : ℕ → Reading) where
         clash (isOut (standing s k))
         (sure-above fs s i e k (fires-below fs r k (p .1 .fired)) (⊎-elim
           (λ (z : k ≡ j). subst (λ (n : ℕ). above fs n i ≡ true) (sym z) a)
-          (λ (z : above fs k j ≡ true). ℛ .transitive k j i z a)
+          (λ (z : above fs k j ≡ true). above-transitive fs k j i z a)
           (p .1 .over)))
         (top-not-out s t j k (p .1)))
 
@@ -194,8 +194,8 @@ final-matches fs r s t e i m =
       by-test (isOut (standing s j) ≡ true) (isOut (standing s j)) (λ z. z)
       (λ z. absurd (matches-top fs r i m j a (held-fires fs r s t j (final-standing s e j z)))))
 
-pub final-sure : (fs : List Filter) → Ranked fs → (r : ℕ → Reading) (s : State) → Tells fs r s → questionOf s ≡ nothing → (i : ℕ) → sure fs s i ≡ matches fs r i
-final-sure fs ℛ r s t e i = same-bool (sure fs s i) (matches fs r i) (sure-matches fs ℛ r s t i) (final-matches fs r s t e i)
+pub final-sure : (fs : List Filter) → (r : ℕ → Reading) (s : State) → Tells fs r s → questionOf s ≡ nothing → (i : ℕ) → sure fs s i ≡ matches fs r i
+final-sure fs r s t e i = same-bool (sure fs s i) (matches fs r i) (sure-matches fs r s t i) (final-matches fs r s t e i)
 
 abbrev pub Shut : List Filter → State → Type 0
 Shut fs s = (i j : ℕ) → j < length fs → above fs j i ≡ true → isHeld (standing s j) ≡ true → isOut (standing s i) ≡ true

@@ -25,11 +25,11 @@ use Rattle.residue.specs.declared.Outcome.{Outcome}
 use Rattle.residue.specs.declared.Residue.{Residue}
 use Rattle.residue.specs.declared.Residue.the-variants.{True, False, Left}
 use Rattle.fields.specs.Widths.{width, full}
+use Rattle.lists.specs.Accepted.{wellItem}
 use Rattle.lists.specs.Filters.{Item, Filter}
 use Rattle.lists.specs.Ranks.{testsOf, above, allHold, fires}
 use Rattle.states.specs.States.{Standing, out, left, State, standing, isHeld, keep, join, cut, cutStanding, beaten, closed, allLeft, start, Question, nothing, ask, questionOf, stepBy}
 use Rattle.states.specs.Runs.{wayOf, run}
-use Rattle.states.specs.Assumed.{wellItem}
 use Rattle.states.specs.Standings.{factBy, divided, step-closes, standing-divided, standing-closed, standing-all, standing-beyond, beaten-where}
 use Rattle.states.specs.Well.{wellState, item-on, fact-known, well-question, well-step}
 use Rattle.states.specs.Every.{everyItem, everyStanding, every-standing}

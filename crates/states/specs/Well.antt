@@ -18,10 +18,11 @@ use Rattle.residue.specs.declared.Fact.{Fact}
 use Rattle.residue.specs.declared.Outcome.{Outcome}
 use Rattle.residue.specs.Relations.{narrows}
 use Rattle.fields.specs.Widths.{full, fieldCount}
+use Rattle.lists.specs.Accepted.{wellItem, wellItems, wellFilter, wellFilters}
 use Rattle.lists.specs.Filters.{Item, Filter}
+use Rattle.lists.specs.Laws.{well-items}
 use Rattle.states.specs.States.{State, allLeft, start, ask, questionOf, stepBy, step}
 use Rattle.states.specs.Runs.{wayOf, advance, run, follow}
-use Rattle.states.specs.Assumed.{wellItem, wellItems, wellFilters}
 use Rattle.states.specs.Standings.{factBy}
 use Rattle.states.specs.Keeps.{advance-keeps, run-keeps, step-keeps, follow-keeps}
 use Rattle.states.specs.Every.{everyItem, everyStanding, everyState, leaves, every-question, every-closed, every-step}
@@ -57,8 +58,8 @@ well-all : (fs : List Filter) → wellFilters fs ≡ true → wellState (map all
 unfolding wellFilters everyState everyStanding allLeft
 well-all [] h = refl
 well-all (f ∷ fs) h =
-    both (everyItem wellItem (f .tests)) (wellState (map allLeft fs)) (every-well (f .tests) ∙ first (wellItems (f .tests)) (wellFilters fs) h)
-    (well-all fs (second (wellItems (f .tests)) (wellFilters fs) h))
+    both (everyItem wellItem (f .tests)) (wellState (map allLeft fs)) (every-well (f .tests) ∙ well-items f (first (wellFilter f) (wellFilters fs) h))
+    (well-all fs (second (wellFilter f) (wellFilters fs) h))
 
 pub well-start : (fs : List Filter) → wellFilters fs ≡ true → wellState (start fs) ≡ true
 unfolding start
