@@ -9,3 +9,5 @@ pub mod Truth
 pub mod Sure
 pub mod Stays
 pub mod Paths
+pub mod Same
+pub mod Asked
