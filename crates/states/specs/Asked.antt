@@ -1,26 +1,24 @@
 -- No path asks the same question twice: once q was asked, no remaining test on its field asks all of q again, and no later step brings one back.
 --   spentItem q t   t is on another field than q, or does not ask all of q
 --   freshItem q t   t is well formed and spentItem q t
-use mathlib.Core.Path.{_≡_, refl, sym, ap, _∙_, subst}
+use mathlib.Core.Path.{_≡_, refl, sym, _∙_, subst}
 use Prim.Native.Nat.{ℕ}
-use mathlib.Core.Bool.{Bool, true, false, cond, _&&_, false≢true}
+use mathlib.Core.Bool.{Bool, true, cond, _&&_, false≢true}
 use mathlib.Core.List.{List}
 use lib.Dec.{eqb}
 use borrow.Author.Tests.{eqb-true, eq-eqb}
 use Rattle.residue.specs.Choice.{by-cond, both, first, second}
-use Rattle.residue.specs.Relations.{sameTest, spent, everyLeft}
+use Rattle.residue.specs.Relations.{spent, everyLeft}
 use Rattle.residue.specs.Residues.{residueBy}
-use Rattle.residue.specs.Laws.{same-test-refl, question-spent, spent-stays, spent-other, every-more}
-use Rattle.residue.specs.declared.Test.{Test}
+use Rattle.residue.specs.Laws.{same-test-refl, question-spent, spent-stays, spent-other}
 use Rattle.residue.specs.declared.Reading.{Reading}
-use Rattle.residue.specs.declared.Fact.{Fact}
 use Rattle.residue.specs.declared.Outcome.{Outcome}
 use Rattle.residue.specs.declared.Residue.{Residue}
 use Rattle.residue.specs.declared.Residue.the-variants.{True, False, Left}
 use Rattle.fields.specs.Widths.{full}
 use Rattle.lists.specs.Accepted.{wellItem}
 use Rattle.lists.specs.Filters.{Item, Filter}
-use Rattle.states.specs.States.{State, ask, questionOf, stepBy, step}
+use Rattle.states.specs.States.{State, ask, questionOf, stepBy}
 use Rattle.states.specs.Runs.{wayOf, run, follow}
 use Rattle.states.specs.Standings.{factBy}
 use Rattle.states.specs.Keeps.{run-keeps, follow-keeps}

@@ -2,7 +2,7 @@
 --   everyItem p ts, everyStanding p x, everyState p s   p is true of every test that remains
 --   leaves p n d                                        p is true of the test on field n that the residue d leaves, if it leaves one
 use Prim.Native.Nat.{ℕ, zero, suc, _+_}
-use mathlib.Core.Path.{_≡_, refl, ap, subst}
+use mathlib.Core.Path.{_≡_, refl, subst}
 use mathlib.Core.Bool.{Bool, true, false, cond, _&&_}
 use mathlib.Core.List.{List, [], _∷_, map}
 use lib.Dec.{eqb}
@@ -16,7 +16,7 @@ use Rattle.residue.specs.declared.Residue.{Residue}
 use Rattle.residue.specs.declared.Residue.the-variants.{True, False, Left}
 use Rattle.fields.specs.Widths.{full}
 use Rattle.lists.specs.Filters.{Item, Filter}
-use Rattle.states.specs.States.{Standing, out, left, State, standing, keep, join, cut, cutStanding, beaten, closedFrom, closed, allLeft, start, nothing, ask, questionOf, stepBy}
+use Rattle.states.specs.States.{Standing, out, left, State, standing, keep, join, cut, cutStanding, beaten, closedFrom, closed, ask, questionOf, stepBy}
 use Rattle.states.specs.Standings.{factBy}
 use Rattle.states.specs.Keeps.{none-asked}
 

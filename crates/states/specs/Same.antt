@@ -3,13 +3,13 @@
 --   sameItem a b       the same field and the same test
 --   sameStanding x y   both out, or the same tests
 --   sameState s t      the same standings
-use mathlib.Core.Path.{_≡_, refl, sym, ap, ap₂, _∙_}
+use mathlib.Core.Path.{_≡_, refl, ap, ap₂}
 use mathlib.Core.Bool.{Bool, true, false, _&&_, false≢true}
 use mathlib.Core.List.{List, [], _∷_}
 use Prim.Native.Nat.{ℕ}
 use lib.Dec.{eqb}
 use borrow.Author.Tests.{eqb-true, eq-eqb}
-use Rattle.residue.specs.Choice.{both, first, second, same-bool}
+use Rattle.residue.specs.Choice.{both, first, second}
 use Rattle.residue.specs.Relations.{sameTest}
 use Rattle.residue.specs.Laws.{same-test-eq, same-test-refl}
 use Rattle.residue.specs.declared.Test.{Test}

@@ -1,6 +1,6 @@
 -- What a step never takes back: a sure filter stays sure and an out filter stays out, whatever the outcome. Closed states stay closed.
-use Prim.Native.Nat.{ℕ, zero, suc, _+_, _≤_, _<_}
-use mathlib.Core.Path.{_≡_, refl, sym, ap, _∙_}
+use Prim.Native.Nat.{ℕ, _≤_}
+use mathlib.Core.Path.{_≡_, refl, _∙_}
 use mathlib.Core.Bool.{Bool, true, false, cond, false≢true}
 use mathlib.Core.List.{List, [], _∷_, map}
 use lib.ListN.{length}
@@ -9,8 +9,7 @@ use Rattle.residue.specs.declared.Reading.{Reading}
 use Rattle.residue.specs.declared.Fact.{Fact}
 use Rattle.residue.specs.declared.Outcome.{Outcome}
 use Rattle.lists.specs.Filters.{Item, Filter}
-use Rattle.lists.specs.Ranks.{above}
-use Rattle.states.specs.States.{Standing, out, left, State, standing, isHeld, isOut, cut, cutStanding, beaten, closed, allLeft, start, Question, nothing, ask, questionOf, stepBy, sure}
+use Rattle.states.specs.States.{Standing, out, left, State, standing, isHeld, isOut, cut, cutStanding, beaten, closed, allLeft, start, stepBy, sure}
 use Rattle.states.specs.Runs.{wayOf, run}
 use Rattle.states.specs.Standings.{factBy, divided, step-closes, standing-divided, standing-closed, beaten-where, where-beaten, length-step, length-start}
 use Rattle.states.specs.Keeps.{run-keeps, run-more}

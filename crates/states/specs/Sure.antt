@@ -1,25 +1,23 @@
 -- What a state that tells the truth says of the match set: sure filters match, out filters do not, and at a final state nothing else is left.
 --   Top fs r m i k     filter k fires, is i or ranks above it, and none below number m that fires ranks above k
 --   Shut fs s          every filter that ranks below a held one is out
-use Prim.Native.Nat.{ℕ, zero, suc, _+_, _≤_, _<_}
+use Prim.Native.Nat.{ℕ, zero, suc, _<_}
 use mathlib.Core.Path.{_≡_, refl, sym, ap, _∙_, subst}
 use mathlib.Core.Logic.{_⊎_, inl, inr, ⊎-elim}
-use mathlib.Core.Bool.{Bool, true, false, cond, not, _&&_, false≢true, and-false}
-use mathlib.Core.List.{List, [], _∷_, map}
+use mathlib.Core.Bool.{Bool, true, false, not, _&&_, false≢true}
+use mathlib.Core.List.{List, [], _∷_}
 use native.Mathlib.Nat.{not-suc-le-zero, eq-or-lt-of-le, le-of-suc-le-suc}
-use native.Mathlib.Omega.{arith}
 use lib.Dec.{ltb}
 use lib.ListN.{length}
-use borrow.Author.Tests.{ltb-true, not-true, not-false}
+use borrow.Author.Tests.{ltb-true, not-true}
 use Rattle.residue.specs.Choice.{never, same-bool, both, first, second}
 use Rattle.residue.specs.declared.Reading.{Reading}
-use Rattle.residue.specs.declared.Outcome.{Outcome}
 use Rattle.sets.specs.Sets.{some}
-use Rattle.sets.specs.Laws.{some-true, some-false, some-where, some-none}
-use Rattle.lists.specs.Filters.{Item, Filter}
+use Rattle.sets.specs.Laws.{some-true, some-none}
+use Rattle.lists.specs.Filters.{Filter}
 use Rattle.lists.specs.Laws.{above-irreflexive, above-transitive}
 use Rattle.lists.specs.Ranks.{testsOf, above, allHold, fires, matches}
-use Rattle.states.specs.States.{Standing, out, left, State, standing, isHeld, isOut, beaten, closed, start, allLeft, Question, nothing, ask, questionOf, stepBy, sure, isOpen}
+use Rattle.states.specs.States.{Standing, out, left, State, standing, isHeld, isOut, nothing, questionOf, sure, isOpen}
 use Rattle.states.specs.Keeps.{none-asked}
 use Rattle.states.specs.Truth.{Says, Tells, held-fires}
 

@@ -3,10 +3,10 @@
 --   Says fs r x i     what the standing x says of filter i is true, where field n reads r n
 --   Tells fs r s      what the state s says of every filter is true
 --   InWidths r        each reading is one of its field's width
-use Prim.Native.Nat.{ℕ, zero, suc, _+_, _-_, _^_, _≤_, _<_}
+use Prim.Native.Nat.{ℕ, _-_, _^_}
 use mathlib.Core.Path.{_≡_, refl, sym, ap, ap₂, _∙_, subst}
 use mathlib.Core.Logic.{_⊎_, inl, inr}
-use mathlib.Core.Bool.{Bool, true, false, cond, not, _&&_, false≢true, and-false}
+use mathlib.Core.Bool.{Bool, true, false, _&&_, false≢true, and-false}
 use mathlib.Core.List.{List, [], _∷_, map}
 use native.Mathlib.Omega.{arith}
 use lib.Dec.{ltb, eqb}
@@ -21,14 +21,13 @@ use Rattle.residue.specs.Laws.{residue-sound, outcome-fact-so}
 use Rattle.residue.specs.declared.Test.{Test}
 use Rattle.residue.specs.declared.Reading.{Reading}
 use Rattle.residue.specs.declared.Fact.{Fact}
-use Rattle.residue.specs.declared.Outcome.{Outcome}
 use Rattle.residue.specs.declared.Residue.{Residue}
 use Rattle.residue.specs.declared.Residue.the-variants.{True, False, Left}
 use Rattle.fields.specs.Widths.{width, full}
 use Rattle.lists.specs.Accepted.{wellItem}
 use Rattle.lists.specs.Filters.{Item, Filter}
 use Rattle.lists.specs.Ranks.{testsOf, above, allHold, fires}
-use Rattle.states.specs.States.{Standing, out, left, State, standing, isHeld, keep, join, cut, cutStanding, beaten, closed, allLeft, start, Question, nothing, ask, questionOf, stepBy}
+use Rattle.states.specs.States.{Standing, out, left, State, standing, isHeld, keep, join, cut, cutStanding, beaten, closed, allLeft, start, stepBy}
 use Rattle.states.specs.Runs.{wayOf, run}
 use Rattle.states.specs.Standings.{factBy, divided, step-closes, standing-divided, standing-closed, standing-all, standing-beyond, beaten-where}
 use Rattle.states.specs.Well.{wellState, item-on, fact-known, well-question, well-step}

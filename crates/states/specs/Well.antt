@@ -1,15 +1,14 @@
 -- Well-formed states: every test that remains is one that refusals 5 to 9 leave. The start of a well-formed list is well formed, and each step keeps it so.
 --   wellState s   every test that remains in s is well formed
 use Prim.Native.Nat.{ℕ}
-use mathlib.Core.Path.{_≡_, refl, sym, ap, ap₂, _∙_, subst}
-use mathlib.Core.Bool.{Bool, true, false, _&&_}
+use mathlib.Core.Path.{_≡_, refl, ap, _∙_, subst}
+use mathlib.Core.Bool.{Bool, true, _&&_}
 use mathlib.Core.List.{List, [], _∷_, map}
 use lib.Dec.{ltb, eqb}
 use borrow.Author.Tests.{eqb-true}
 use Rattle.residue.specs.Tests.{wellFormed}
 use Rattle.residue.specs.Facts.{wellKnown}
-use Rattle.residue.specs.Residues.{residueBy, wellLeft}
-use Rattle.residue.specs.Relations.{everyLeft}
+use Rattle.residue.specs.Residues.{residueBy}
 use Rattle.residue.specs.Choice.{both, first, second}
 use Rattle.residue.specs.Laws.{fact-well, residue-narrows, narrows-well, every-more}
 use Rattle.residue.specs.declared.Test.{Test}
