@@ -5,7 +5,7 @@ use Prim.Native.Nat.{ℕ, zero, suc, _+_, _≤_, _<_}
 use mathlib.Core.Path.{_≡_, refl, ap, _∙_, subst}
 use mathlib.Core.Bool.{Bool, true, false, cond, _&&_, false≢true}
 use mathlib.Core.List.{List, [], _∷_, map}
-use native.Mathlib.Nat.{le-refl}
+use native.Mathlib.Nat.{le-refl, not-suc-le-zero, le-of-suc-le-suc}
 use native.Mathlib.Omega.{arith}
 use lib.Dec.{eqb}
 use lib.ListN.{length}
@@ -182,6 +182,21 @@ asked-none : (fs : List Filter) (r : ℕ → Reading) (n : ℕ) (s : State) → 
 unfolding askedIn askedAt
 asked-none fs r zero s e = refl
 asked-none fs r (suc n) s e = ap (λ (a : Question). askedAt a (askedIn fs r n (advance fs r s))) e
+
+-- Past the end nothing changes.
+pub run-past :
+    (fs : List Filter) (r : ℕ → Reading) (n m : ℕ) (s : State) → n ≤ m → questionOf (run fs r n s) ≡ nothing → run fs r m s ≡ run fs r n s
+unfolding run
+run-past fs r zero m s l e = run-stays fs r m s e
+run-past fs r (suc n) zero s l e = absurd (not-suc-le-zero l)
+run-past fs r (suc n) (suc m) s l e = run-past fs r n m (advance fs r s) (le-of-suc-le-suc l) e
+
+pub asked-past :
+    (fs : List Filter) (r : ℕ → Reading) (n m : ℕ) (s : State) → n ≤ m → questionOf (run fs r n s) ≡ nothing → askedIn fs r m s ≡ askedIn fs r n s
+unfolding run askedIn
+asked-past fs r zero m s l e = asked-none fs r m s e
+asked-past fs r (suc n) zero s l e = absurd (not-suc-le-zero l)
+asked-past fs r (suc n) (suc m) s l e = ap (askedAt (questionOf s)) (asked-past fs r n m (advance fs r s) (le-of-suc-le-suc l) e)
 
 asked-zero : (fs : List Filter) (r : ℕ → Reading) (s : State) → askedIn fs r 0 s ≡ 0
 unfolding askedIn
