@@ -56,8 +56,8 @@ unfolding freshItem spentItem
 asked-fresh fs o q s hq h =
     every-step wellItem (freshItem q) fs o q s
     (λ t g e.
-      leaves-fresh q (q .field) (residueBy (full (q .field)) (factBy o q) (t .test)) (item-leaves (q .field) (factBy o q) t e g)
-      (λ _. question-spent (full (q .field)) o (q .test) (t .test) (item-test q hq)))
+    leaves-fresh q (q .field) (residueBy (full (q .field)) (factBy o q) (t .test)) (item-leaves (q .field) (factBy o q) t e g)
+    (λ _. question-spent (full (q .field)) o (q .test) (t .test) (item-test q hq)))
     (λ t g e. both (wellItem t) (cond (eqb (t .field) (q .field)) (spent (q .test) (t .test)) true) g (rw e))
     h
 
@@ -65,10 +65,10 @@ pub fresh-step : (q : Item) (fs : List Filter) (o : Outcome) (p : Item) (s : Sta
 fresh-step q fs o p s h =
     every-step (freshItem q) (freshItem q) fs o p s
     (λ t g e.
-      leaves-fresh q (p .field) (residueBy (full (p .field)) (factBy o p) (t .test)) (item-leaves (p .field) (factBy o p) t e (fresh-well q t g))
-      (λ z.
-        spent-stays (full (p .field)) (factBy o p) (q .test) (t .test) (item-on (p .field) t e (fresh-well q t g))
-        (fresh-spent q t g (eq-eqb (t .field) (q .field) (eqb-true (t .field) (p .field) e ∙ eqb-true (p .field) (q .field) z)))))
+    leaves-fresh q (p .field) (residueBy (full (p .field)) (factBy o p) (t .test)) (item-leaves (p .field) (factBy o p) t e (fresh-well q t g))
+    (λ z.
+    spent-stays (full (p .field)) (factBy o p) (q .test) (t .test) (item-on (p .field) t e (fresh-well q t g))
+    (fresh-spent q t g (eq-eqb (t .field) (q .field) (eqb-true (t .field) (p .field) e ∙ eqb-true (p .field) (q .field) z)))))
     (λ t g e. g)
     h
 

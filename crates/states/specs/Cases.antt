@@ -85,12 +85,12 @@ unfolding pathCases
 all-cases n l =
     ap
     (λ (b : Bool).
-      allRight
-      (residueCases ++
-      (atAllowance 0 0 0 0 false ∷
-      atAllowance 1 1 2 1 false ∷
-      b ∷
-      eqb (matchSet (sampleList 1 3 1 2 1 1) echoRequest) 1 ∷
-      eqb (matchSet (sampleList 1 1 1 2 1 3) echoRequest) 4 ∷ [])))
+    allRight
+    (residueCases ++
+    (atAllowance 0 0 0 0 false ∷
+    atAllowance 1 1 2 1 false ∷
+    b ∷
+    eqb (matchSet (sampleList 1 3 1 2 1 1) echoRequest) 1 ∷
+    eqb (matchSet (sampleList 1 1 1 2 1 3) echoRequest) 4 ∷ [])))
     (two-or-more n l) ∙
     cases-at-two

@@ -12,3 +12,4 @@ pub mod Paths
 pub mod Same
 pub mod Asked
 pub mod Cases
+pub mod Laws

@@ -115,9 +115,11 @@ own-falls o q ts h =
     let n = q .field in
     let k = factBy o q in
     rw (eq-eqb n n refl)
-    (omega (arith,
-    join-settled n (residueBy (full n) k (q .test)) (cut n k ts) (residue-own (full n) o (q .test) (item-test q h)),
-    cut-le n k ts))
+    (omega (
+      arith,
+      join-settled n (residueBy (full n) k (q .test)) (cut n k ts) (residue-own (full n) o (q .test) (item-test q h)),
+      cut-le n k ts,
+    ))
 
 head-falls :
     (o : Outcome) (q t : Item) (ts : List Item) → wellItem q ≡ true → q ≡ t →
@@ -125,7 +127,7 @@ head-falls :
 unfolding cutStanding remainingIn
 head-falls o q t ts h z =
     let g : remainingIn (cut (q .field) (factBy o q) (t ∷ ts)) ≤ length ts =
-        subst (λ (u : Item). remainingIn (cut (q .field) (factBy o q) (u ∷ ts)) ≤ length ts) z (own-falls o q ts h) in
+    subst (λ (u : Item). remainingIn (cut (q .field) (factBy o q) (u ∷ ts)) ≤ length ts) z (own-falls o q ts h) in
     omega arith
 
 map-falls :
@@ -214,10 +216,12 @@ asked-remaining fs r zero s h = omega (arith, asked-zero fs r s)
 asked-remaining fs r (suc n) s h =
     by-question (askedIn fs r (suc n) s ≤ remaining s) s
     (λ e. omega (arith, asked-none fs r (suc n) s e))
-    (λ q e. omega (arith,
+    (λ q e. omega (
+      arith,
       asked-ask fs r n q s e,
       advance-falls fs r q s h e,
-      asked-remaining fs r n (advance fs r s) (well-advance fs r s h)))
+      asked-remaining fs r n (advance fs r s) (well-advance fs r s h),
+    ))
 
 pub asked-tests : (fs : List Filter) (r : ℕ → Reading) (n : ℕ) → wellFilters fs ≡ true → askedIn fs r n (start fs) ≤ testsIn fs
 asked-tests fs r n h = omega (arith, asked-remaining fs r n (start fs) (well-start fs h), start-remaining fs)

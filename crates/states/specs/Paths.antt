@@ -66,4 +66,5 @@ module _ (fs : List Filter) (r : ℕ → Reading) (h : wellFilters fs ≡ true) 
         sure-kept = λ m i l e. run-sure-stays fs r n m (start fs) i l e;
         out-kept = λ m i l e. run-out-stays fs r n m (start fs) i l e;
         asked-allowed = asked-le fs r n (start fs);
-        asked-few = asked-tests fs r n h }
+        asked-few = asked-tests fs r n h;
+      }

@@ -73,10 +73,10 @@ sure-not-beaten : (fs : List Filter) (o : Outcome) (q : Item) (s : State) (i : �
 sure-not-beaten fs o q s i e =
     never (beaten fs (divided o q s) i)
     (λ b.
-      let w = beaten-where fs (divided o q s) i b in
-      clash (isOut (standing (divided o q s) (w .0)))
-      (out-divided o q s (w .0) (sure-above fs s i e (w .0) (w .1) (w .2)))
-      (not-held-out (standing (divided o q s) (w .0)) (w .3)))
+    let w = beaten-where fs (divided o q s) i b in
+    clash (isOut (standing (divided o q s) (w .0)))
+    (out-divided o q s (w .0) (sure-above fs s i e (w .0) (w .1) (w .2)))
+    (not-held-out (standing (divided o q s) (w .0)) (w .3)))
 
 sure-held-stays : (fs : List Filter) (o : Outcome) (q : Item) (s : State) (i : ℕ) → sure fs s i ≡ true → isHeld (standing (stepBy fs o q s) i) ≡ true
 sure-held-stays fs o q s i e =

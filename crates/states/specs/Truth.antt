@@ -130,10 +130,10 @@ module _ (fs : List Filter) (r : ℕ → Reading) where
         let hs = cut-holds n k ts g so (second (wellItem t) (everyItem wellItem ts) h) in
         by-cond (λ (x : Standing). holdsIn r x ≡ (holdsOf (t .test) (r (t .field)) && allHold r ts)) (eqb (t .field) n)
         (λ e.
-          join-holds n (residueBy (full n) k (t .test)) (cut n k ts) ∙
-          ap₂ (λ (a b : Bool). a && b)
-          (sym (ap (λ (m : ℕ). holdsOf (t .test) (r m)) (eqb-true (t .field) n e) ∙ divide-sound n k (t .test) (r n) g (item-on n t e ht) (w n) so))
-          hs)
+        join-holds n (residueBy (full n) k (t .test)) (cut n k ts) ∙
+        ap₂ (λ (a b : Bool). a && b)
+        (sym (ap (λ (m : ℕ). holdsOf (t .test) (r m)) (eqb-true (t .field) n e) ∙ divide-sound n k (t .test) (r n) g (item-on n t e ht) (w n) so))
+        hs)
         (λ _. keep-holds t (cut n k ts) ∙ ap (λ (b : Bool). holdsOf (t .test) (r (t .field)) && b) hs)
 
     cut-says :
@@ -151,8 +151,8 @@ module _ (fs : List Filter) (r : ℕ → Reading) where
         rw (step-closes fs o q s)
         (tells-closed (divided o q s)
         (λ i.
-          rw (standing-divided o q s i)
-          (cut-says n (factBy o q) (standing s i) i (fact-known o q hq) (outcome-fact-so (full n) (q .test) (r n) (w n)) (every-standing wellItem s i h) (t i))))
+        rw (standing-divided o q s i)
+        (cut-says n (factBy o q) (standing s i) i (fact-known o q hq) (outcome-fact-so (full n) (q .test) (r n) (w n)) (every-standing wellItem s i h) (t i))))
 
     -- ---- the path of the frame
 

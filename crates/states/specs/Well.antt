@@ -76,8 +76,8 @@ unfolding wellItem
 item-leaves n k t e h =
     every-more (narrows (t .test)) (λ (u : Test). wellItem (record { field = n; test = u })) (residueBy (full n) k (t .test))
     (λ u r.
-      both (ltb n fieldCount) (wellFormed (full n) u) (subst (λ (m : ℕ). ltb m fieldCount ≡ true) (eqb-true (t .field) n e) (item-field t h))
-      (narrows-well (full n) (t .test) u (item-on n t e h) r))
+    both (ltb n fieldCount) (wellFormed (full n) u) (subst (λ (m : ℕ). ltb m fieldCount ≡ true) (eqb-true (t .field) n e) (item-field t h))
+    (narrows-well (full n) (t .test) u (item-on n t e h) r))
     (residue-narrows (full n) k (t .test) (item-on n t e h))
 
 pub well-step : (fs : List Filter) (o : Outcome) (q : Item) (s : State) → wellState s ≡ true → wellState (stepBy fs o q s) ≡ true
