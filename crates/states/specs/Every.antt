@@ -78,7 +78,7 @@ module _ (p : Item → Bool) where
   every-keep t (left ts) h g = both (p t) (everyItem p ts) h g
 
   every-join : (n : ℕ) (d : Residue) (x : Standing) → leaves p n d ≡ true → everyStanding p x ≡ true → everyStanding p (join n d x) ≡ true
-  unfolding join everyLeft everyStanding
+  unfolding join everyLeft everyStanding everyItem
   every-join n True x h g = g
   every-join n False x h g = refl
   every-join n (Left u) x h g = every-keep (record { field = n; test = u }) x h g
