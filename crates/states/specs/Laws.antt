@@ -10,6 +10,7 @@
 --   tells-start, tells-step, tells-run   a path tells the truth of its frame
 --   sure-matches, out-not-matches, final-sure, final-none-open   what a state that tells the truth says of the match set
 --   sure-stays, out-stays, shut-step   what no step takes back
+--   member-sure, member-out, member-match   the bit sets by their members
 --   path-truth        all that demands 2 and 3 say of one path
 --   same-state-eq, same-state-refl   sameState decides whether two states are equal
 --   never-twice, run-never-twice     no path asks the same question twice
@@ -17,10 +18,10 @@ pub use Rattle.states.specs.Standings.{factBy, divided, step-closes, sta
 pub use Rattle.states.specs.Keeps.{none-asked, by-question, advance-keeps, run-keeps, run-more, step-keeps, follow-keeps}
 pub use Rattle.states.specs.Every.{everyItem, everyStanding, everyState, every-standing, every-question, every-closed, every-step}
 pub use Rattle.states.specs.Well.{wellState, every-well, well-start, well-question, well-step, well-next, well-follow, well-advance, well-run}
-pub use Rattle.states.specs.Measure.{asks, asksAll, start-remaining, asking-remaining, none-remaining, step-falls, next-falls, follow-falls, path-tests, run-stays, run-ends, run-final, run-past, asked-past, asked-le, asked-remaining, asked-tests}
+pub use Rattle.states.specs.Measure.{asks, asksAll, start-remaining, asking-remaining, none-remaining, step-falls, next-falls, follow-falls, path-tests, step-ask, advance-ask, asked-ask, asked-none, run-stays, run-ends, run-final, run-past, asked-past, asked-le, asked-remaining, asked-tests}
 pub use Rattle.states.specs.Truth.{Says, Tells, InWidths, held-fires, tells-start, tells-step, tells-run}
 pub use Rattle.states.specs.Sure.{Shut, sure-held, sure-above, held-sure, matches-fires, matches-top, top-matches, sure-matches, out-not-matches, final-standing, final-sure, final-none-open}
 pub use Rattle.states.specs.Stays.{shut-closed, shut-start, shut-step, out-stays, sure-stays, run-shut, run-sure-stays, run-out-stays, length-run}
-pub use Rattle.states.specs.Paths.{after, matchSet, PathTruth, tells-after, path-truth}
+pub use Rattle.states.specs.Paths.{after, matchSet, member-sure, member-out, member-match, PathTruth, tells-after, path-truth}
 pub use Rattle.states.specs.Same.{sameList, sameItem, sameStanding, sameState, same-item-eq, same-item-refl, same-standing-eq, same-standing-refl, same-state-eq, same-state-refl}
 pub use Rattle.states.specs.Asked.{never-twice, run-never-twice}

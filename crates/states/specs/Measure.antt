@@ -154,9 +154,13 @@ run-stays fs r zero s e = refl
 run-stays fs r (suc n) s e =
     ap (λ (a : Question). run fs r n (advanceAt fs r a s)) e ∙ run-stays fs r n s e
 
-advance-ask : (fs : List Filter) (r : ℕ → Reading) (q : Item) (s : State) → questionOf s ≡ ask q → advance fs r s ≡ stepBy fs (wayOf r q) q s
+pub advance-ask : (fs : List Filter) (r : ℕ → Reading) (q : Item) (s : State) → questionOf s ≡ ask q → advance fs r s ≡ stepBy fs (wayOf r q) q s
 unfolding advance advanceAt
 advance-ask fs r q s e = ap (λ (a : Question). advanceAt fs r a s) e
+
+pub step-ask : (fs : List Filter) (o : Outcome) (q : Item) (s : State) → questionOf s ≡ ask q → step fs o s ≡ stepBy fs o q s
+unfolding step stepAt
+step-ask fs o q s e = ap (λ (a : Question). stepAt fs o a s) e
 
 advance-falls : (fs : List Filter) (r : ℕ → Reading) (q : Item) (s : State) → wellState s ≡ true → questionOf s ≡ ask q → remaining (advance fs r s) < remaining s
 advance-falls fs r q s h e = rw (advance-ask fs r q s e) (step-falls fs (wayOf r q) q s h e)
@@ -175,12 +179,12 @@ run-final fs r n h l = run-ends fs r n (start fs) (well-start fs h) (omega (arit
 
 -- ---- how many questions are asked
 
-asked-ask :
+pub asked-ask :
     (fs : List Filter) (r : ℕ → Reading) (n : ℕ) (q : Item) (s : State) → questionOf s ≡ ask q → askedIn fs r (suc n) s ≡ askedIn fs r n (advance fs r s) + 1
 unfolding askedIn askedAt
 asked-ask fs r n q s e = ap (λ (a : Question). askedAt a (askedIn fs r n (advance fs r s))) e
 
-asked-none : (fs : List Filter) (r : ℕ → Reading) (n : ℕ) (s : State) → questionOf s ≡ nothing → askedIn fs r n s ≡ 0
+pub asked-none : (fs : List Filter) (r : ℕ → Reading) (n : ℕ) (s : State) → questionOf s ≡ nothing → askedIn fs r n s ≡ 0
 unfolding askedIn askedAt
 asked-none fs r zero s e = refl
 asked-none fs r (suc n) s e = ap (λ (a : Question). askedAt a (askedIn fs r n (advance fs r s))) e
@@ -230,12 +234,12 @@ asked-tests fs r n h = omega (arith, asked-remaining fs r n (start fs) (well-sta
 
 pub next-falls :
     (fs : List Filter) (o : Outcome) (s : State) → wellState s ≡ true → asks (questionOf s) ≡ true → remaining (step fs o s) < remaining s
-unfolding asks step stepAt
+unfolding asks
 next-falls fs o s h a = go (questionOf s) refl a
   where
     go : (a : Question) → questionOf s ≡ a → asks a ≡ true → remaining (step fs o s) < remaining s
     go nothing e z = absurd (false≢true z)
-    go (ask q) e z = rw (ap (λ (b : Question). stepAt fs o b s) e) (step-falls fs o q s h e)
+    go (ask q) e z = rw (step-ask fs o q s e) (step-falls fs o q s h e)
 
 pub follow-falls :
     (fs : List Filter) (os : List Outcome) (s : State) → wellState s ≡ true → asksAll fs os s ≡ true → length os + remaining (follow fs os s) ≤ remaining s

@@ -4,16 +4,17 @@
 --   PathTruth fs r n  what it promises
 use Prim.Native.Nat.{ℕ, _≤_}
 use mathlib.Core.Path.{_≡_, ap}
-use mathlib.Core.Bool.{true, false}
+use mathlib.Core.Bool.{true, false, _&&_}
 use mathlib.Core.List.{List}
+use lib.Dec.{ltb}
 use lib.ListN.{length}
 use Rattle.residue.specs.declared.Reading.{Reading}
-use Rattle.sets.specs.Sets.{setOf, tally}
-use Rattle.sets.specs.Laws.{tally-ext}
+use Rattle.sets.specs.Sets.{setOf, tally, member}
+use Rattle.sets.specs.Laws.{tally-ext, member-tally}
 use Rattle.lists.specs.Accepted.{wellFilters}
 use Rattle.lists.specs.Filters.{Filter, testsIn}
 use Rattle.lists.specs.Ranks.{matches}
-use Rattle.states.specs.States.{State, standing, isOut, start, nothing, questionOf, sure, isOpen, sureSet}
+use Rattle.states.specs.States.{State, standing, isOut, start, nothing, questionOf, sure, isOpen, sureSet, outSet}
 use Rattle.states.specs.Runs.{run, askedIn}
 use Rattle.states.specs.Well.{well-start}
 use Rattle.states.specs.Measure.{run-final, asked-le, asked-tests}
@@ -26,6 +27,19 @@ after fs r n = run fs r n (start fs)
 
 unfoldable pub matchSet : List Filter → (ℕ → Reading) → ℕ
 matchSet fs r = setOf (tally (length fs) (λ i. matches fs r i))
+
+-- The sets by their members.
+pub member-sure : (fs : List Filter) (s : State) (i : ℕ) → member i (sureSet fs s) ≡ (ltb i (length fs) && sure fs s i)
+unfolding sureSet
+member-sure fs s i = member-tally (length fs) (λ j. sure fs s j) i
+
+pub member-out : (fs : List Filter) (s : State) (i : ℕ) → member i (outSet fs s) ≡ (ltb i (length fs) && isOut (standing s i))
+unfolding outSet
+member-out fs s i = member-tally (length fs) (λ j. isOut (standing s j)) i
+
+pub member-match : (fs : List Filter) (r : ℕ → Reading) (i : ℕ) → member i (matchSet fs r) ≡ (ltb i (length fs) && matches fs r i)
+unfolding matchSet
+member-match fs r i = member-tally (length fs) (λ j. matches fs r j) i
 
 pub record PathTruth (fs : List Filter) (r : ℕ → Reading) (n : ℕ) : Type 0 where
   -- A sure filter is in the match set, an out one is not.
