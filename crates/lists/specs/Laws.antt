@@ -2,9 +2,9 @@
 -- Reading from the front: listed-step, listed-end, listed-full; no-fault says what a filter without a fault has;
 --   accepted-head, accepted-rest take one filter off an accepted list.
 -- Accepted lists: accepted-count, accepted-well. A test and its words: item-round, words-round.
--- Ranks: above-irreflexive, above-transitive.
+-- Ranks: above-irreflexive, above-transitive; rank sets: getD-rankSets, rankSet-in, rankSet-beyond, member-rankSet, rankSet-clear, rankSet-bound.
 -- Assumes nothing.
-use Prim.Native.Nat.{ℕ, zero, suc, _+_, _*_, _≤_, _<_}
+use Prim.Native.Nat.{ℕ, zero, suc, _+_, _*_, _^_, _≤_, _<_}
 use mathlib.Core.Path.{_≡_, refl, sym, ap, ap₂, _∙_}
 use mathlib.Core.Bool.{Bool, true, false, cond, not, _&&_, _||_, false≢true, true≢false}
 use mathlib.Core.List.{List, [], _∷_}
@@ -14,13 +14,16 @@ use lib.Bits.{bitAnd}
 use lib.Dec.{leb, ltb, eqb, lit<}
 use lib.ListN.{length, getD, take, drop}
 use borrow.Author.Tests.{ltb-true, ltb-false, leb-true, leb-false, eqb-true, eqb-false, not-false, lt-ltb, le-leb, eq-eqb, le-ltb, ne-eqb}
+use lib.Pow.{pow-pos}
+use Rattle.sets.specs.Sets.{setOf, member, tally, some}
+use Rattle.sets.specs.Laws.{length-tally, getD-tally, member-tally, and-tally-zero, tally-bound}
 use Rattle.residue.specs.Tests.{wellMasked, wellFormed}
 use Rattle.residue.specs.declared.Test.{Test}
 use Rattle.residue.specs.declared.Test.the-variants.{Equal, Differs, AtMost, AtLeast}
 use Rattle.fields.specs.Widths.{fieldCount, full}
 use Rattle.lists.specs.Filters.{maxFilters, maxTests, maxRank, headWords, testWords, groupWord, levelWord, countWord, filterWords, Item, Filter, testOf, itemOf, itemsOf, filterOf, filtersFrom, filtersOf, testsIn}
 use Rattle.lists.specs.Refusals.{masked, testFault, wordsFault, testsFault, filterFault, listedFrom, listed}
-use Rattle.lists.specs.Ranks.{noFilter, groupOf, levelOf, outranks, above}
+use Rattle.lists.specs.Ranks.{noFilter, groupOf, levelOf, outranks, above, rankSet, rankSets}
 use Rattle.lists.specs.Accepted.{isAccepted, wellItem, wellItems, wellFilter, wellFilters, kindOf, maskOf, valueOf, itemWords}
 use Rattle.lists.specs.declared.Listed.{Listed}
 use Rattle.lists.specs.declared.Listed.the-variants.{Accepted, Refused}
@@ -31,7 +34,7 @@ or-parts : (a b : Bool) → (a || b) ≡ false → (a ≡ false) × (b ≡ false
 or-parts true b e = absurd (true≢false e)
 or-parts false b e = (refl, e)
 
-and-parts : (a b : Bool) → (a && b) ≡ true → (a ≡ true) × (b ≡ true)
+pub and-parts : (a b : Bool) → (a && b) ≡ true → (a ≡ true) × (b ≡ true)
 and-parts true b e = (refl, e)
 and-parts false b e = absurd (false≢true e)
 
@@ -364,3 +367,38 @@ above-transitive fs i j k p q =
           lower = omega (arith, x .lower, y .lower);
           earlier = λ (e : l ≡ n). omega (arith, x .earlier (omega (arith, x .lower, y .lower)), y .earlier (omega (arith, x .lower, y .lower)));
         }
+
+-- ---- rank sets
+
+pub length-rankSets : (fs : List Filter) → length (rankSets fs) ≡ maxFilters
+unfolding rankSets
+length-rankSets fs = length-tally maxFilters (rankSet fs)
+
+pub getD-rankSets : (fs : List Filter) (i : ℕ) → i < maxFilters → getD (rankSets fs) i 0 ≡ rankSet fs i
+unfolding rankSets
+getD-rankSets fs i l = getD-tally maxFilters (rankSet fs) 0 i l
+
+pub rankSet-in : (fs : List Filter) (i : ℕ) → i < length fs → rankSet fs i ≡ setOf (tally (length fs) (λ j. above fs j i))
+unfolding rankSet
+rankSet-in fs i l = rw (lt-ltb i (length fs) l)
+
+pub rankSet-beyond : (fs : List Filter) (i : ℕ) → length fs ≤ i → rankSet fs i ≡ 0
+unfolding rankSet
+rankSet-beyond fs i l = rw (le-ltb i (length fs) l)
+
+pub member-rankSet : (fs : List Filter) (i j : ℕ) → i < length fs → member j (rankSet fs i) ≡ (ltb j (length fs) && above fs j i)
+member-rankSet fs i j l = ap (member j) (rankSet-in fs i l) ∙ member-tally (length fs) (λ k. above fs k i) j
+
+-- None of a set of the list's filters ranks above filter i.
+pub rankSet-clear : (fs : List Filter) (p : ℕ → Bool) (i : ℕ) → i < length fs → eqb (bitAnd (rankSet fs i) (setOf (tally (length fs) p))) 0 ≡ not (some (length fs) (λ j. above fs j i && p j))
+rankSet-clear fs p i l =
+    ap (λ (s : ℕ). eqb (bitAnd s (setOf (tally (length fs) p))) 0) (rankSet-in fs i l) ∙
+    and-tally-zero (length fs) (λ j. above fs j i) p
+
+pub rankSet-bound : (k : ℕ) (fs : List Filter) (i : ℕ) → length fs ≤ k → rankSet fs i < 2 ^ k
+unfolding rankSet
+rankSet-bound k fs i l = go (ltb i (length fs))
+  where
+    go : (b : Bool) → cond b (setOf (tally (length fs) (λ j. above fs j i))) 0 < 2 ^ k
+    go true = tally-bound k (length fs) (λ j. above fs j i) l
+    go false = pow-pos k
