@@ -18,7 +18,7 @@ use borrow.Author.Tests.{ltb-true, ltb-false, lt-ltb}
 use Rattle.sets.specs.Sets.{setOf, tally}
 use Rattle.sets.specs.Laws.{tally-ext, tally-more}
 use Rattle.lists.specs.Filters.{Filter, maxFilters, headWords, testWords, countWord, filterWords, filterOf, filtersFrom, filtersOf}
-use Rattle.lists.specs.Laws.{and-parts}
+use Rattle.lists.specs.Laws.{and-parts, filters-step, filters-none}
 use Rattle.lists.specs.Ranks.{noFilter, groupOf, levelOf, outranks, above, aboveBy, rankSetBy, rankSet, rankSets, Heads}
 
 abbrev pub groupIn : Filter → ℕ
@@ -26,16 +26,6 @@ groupIn f = f .group
 
 abbrev pub levelIn : Filter → ℕ
 levelIn f = f .level
-
-filters-step : (n : ℕ) (ws : List ℕ) → 0 < length ws → filtersFrom (suc n) ws ≡ filterOf ws ∷ filtersFrom n (drop (filterWords ws) ws)
-unfolding filtersFrom
-filters-step n [] l = absurd (not-suc-le-zero l)
-filters-step n (w ∷ ws) l = refl
-
-filters-none : (n : ℕ) → filtersFrom n [] ≡ []
-unfolding filtersFrom
-filters-none zero = refl
-filters-none (suc n) = refl
 
 -- The place after the filter at a place.
 abbrev pub after : List ℕ → ℕ → ℕ

@@ -1,6 +1,6 @@
 -- Laws of lists, for the crates above.
 -- Reading from the front: listed-step, listed-end, listed-full; no-fault says what a filter without a fault has;
---   accepted-head, accepted-rest take one filter off an accepted list.
+--   accepted-head, accepted-rest, filters-step take one filter off an accepted list.
 -- Accepted lists: accepted-count, accepted-well. A test and its words: item-round, words-round.
 -- Ranks: above-irreflexive, above-transitive; rank sets: getD-rankSets, rankSet-in, rankSet-beyond, member-rankSet, rankSet-clear, rankSet-bound.
 -- Assumes nothing.
@@ -8,7 +8,7 @@ use Prim.Native.Nat.{ℕ, zero, suc, _+_, _*_, _^_, _≤_, _<_}
 use mathlib.Core.Path.{_≡_, refl, sym, ap, ap₂, _∙_}
 use mathlib.Core.Bool.{Bool, true, false, cond, not, _&&_, _||_, false≢true, true≢false}
 use mathlib.Core.List.{List, [], _∷_}
-use native.Mathlib.Nat.{not-suc-le-zero}
+use native.Mathlib.Nat.{not-suc-le-zero, zero-lt-suc}
 use native.Mathlib.Omega.{arith}
 use lib.Bits.{bitAnd}
 use lib.Dec.{leb, ltb, eqb, lit<}
@@ -211,19 +211,29 @@ unfolding listedFrom
 listed-full i t [] l = absurd (not-suc-le-zero l)
 listed-full i t (w ∷ ws) l = refl
 
-accepted-parts : (n i t a b : ℕ) (w : ℕ) (ws : List ℕ) → listedFrom (suc n) i t (w ∷ ws) ≡ Accepted a b → (filterFault (w ∷ ws) ≡ 0) × (listedFrom n (i + 1) (t + countWord (w ∷ ws)) (drop (filterWords (w ∷ ws)) (w ∷ ws)) ≡ Accepted a b)
-unfolding listedFrom
-accepted-parts n i t a b w ws e = go (eqb (filterFault (w ∷ ws)) 0) refl e
+accepted-parts : (n i t a b : ℕ) (ws : List ℕ) → 0 < length ws → listedFrom (suc n) i t ws ≡ Accepted a b → (filterFault ws ≡ 0) × (listedFrom n (i + 1) (t + countWord ws) (drop (filterWords ws) ws) ≡ Accepted a b)
+accepted-parts n i t a b ws l e = go (eqb (filterFault ws) 0) refl (sym (listed-step n i t ws l) ∙ e)
   where
-    go : (c : Bool) → eqb (filterFault (w ∷ ws)) 0 ≡ c → cond c (listedFrom n (i + 1) (t + countWord (w ∷ ws)) (drop (filterWords (w ∷ ws)) (w ∷ ws))) (Refused (filterFault (w ∷ ws)) i) ≡ Accepted a b → (filterFault (w ∷ ws) ≡ 0) × (listedFrom n (i + 1) (t + countWord (w ∷ ws)) (drop (filterWords (w ∷ ws)) (w ∷ ws)) ≡ Accepted a b)
-    go true z h = (eqb-true (filterFault (w ∷ ws)) 0 z, h)
+    go : (c : Bool) → eqb (filterFault ws) 0 ≡ c → cond c (listedFrom n (i + 1) (t + countWord ws) (drop (filterWords ws) ws)) (Refused (filterFault ws) i) ≡ Accepted a b → (filterFault ws ≡ 0) × (listedFrom n (i + 1) (t + countWord ws) (drop (filterWords ws) ws) ≡ Accepted a b)
+    go true z h = (eqb-true (filterFault ws) 0 z, h)
     go false z h = absurd (false≢true (ap isAccepted h))
 
-pub accepted-head : (n i t a b : ℕ) (w : ℕ) (ws : List ℕ) → listedFrom (suc n) i t (w ∷ ws) ≡ Accepted a b → NoFault (w ∷ ws)
-accepted-head n i t a b w ws e = no-fault (w ∷ ws) (accepted-parts n i t a b w ws e .0)
+pub accepted-head : (n i t a b : ℕ) (ws : List ℕ) → 0 < length ws → listedFrom (suc n) i t ws ≡ Accepted a b → NoFault ws
+accepted-head n i t a b ws l e = no-fault ws (accepted-parts n i t a b ws l e .0)
 
-pub accepted-rest : (n i t a b : ℕ) (w : ℕ) (ws : List ℕ) → listedFrom (suc n) i t (w ∷ ws) ≡ Accepted a b → listedFrom n (i + 1) (t + countWord (w ∷ ws)) (drop (filterWords (w ∷ ws)) (w ∷ ws)) ≡ Accepted a b
-accepted-rest n i t a b w ws e = accepted-parts n i t a b w ws e .1
+pub accepted-rest : (n i t a b : ℕ) (ws : List ℕ) → 0 < length ws → listedFrom (suc n) i t ws ≡ Accepted a b → listedFrom n (i + 1) (t + countWord ws) (drop (filterWords ws) ws) ≡ Accepted a b
+accepted-rest n i t a b ws l e = accepted-parts n i t a b ws l e .1
+
+-- The filters from the front.
+pub filters-step : (n : ℕ) (ws : List ℕ) → 0 < length ws → filtersFrom (suc n) ws ≡ filterOf ws ∷ filtersFrom n (drop (filterWords ws) ws)
+unfolding filtersFrom
+filters-step n [] l = absurd (not-suc-le-zero l)
+filters-step n (w ∷ ws) l = refl
+
+pub filters-none : (n : ℕ) → filtersFrom n [] ≡ []
+unfolding filtersFrom
+filters-none zero = refl
+filters-none (suc n) = refl
 
 -- No filter can follow the last.
 pub accepted-last : (i t a b : ℕ) (w : ℕ) (ws : List ℕ) → listedFrom 0 i t (w ∷ ws) ≡ Accepted a b → ⊥
@@ -276,12 +286,12 @@ counted-from zero i t a b [] e = counted-none zero i t a b e
 counted-from zero i t a b (w ∷ ws) e = absurd (accepted-last i t a b w ws e)
 counted-from (suc n) i t a b [] e = counted-none (suc n) i t a b e
 counted-from (suc n) i t a b (w ∷ ws) e =
-    let h = accepted-head n i t a b w ws e in
+    let h = accepted-head n i t a b (w ∷ ws) (zero-lt-suc (length ws)) e in
     let m = length-items (countWord (w ∷ ws)) (drop headWords (w ∷ ws)) in
     counted-more (filterOf (w ∷ ws)) (filtersFrom n (drop (filterWords (w ∷ ws)) (w ∷ ws))) n i t a b
     (omega (arith, m, h .count))
     (no-fault-well (w ∷ ws) h)
-    (rw m (counted-from n (i + 1) (t + countWord (w ∷ ws)) a b (drop (filterWords (w ∷ ws)) (w ∷ ws)) (accepted-rest n i t a b w ws e)))
+    (rw m (counted-from n (i + 1) (t + countWord (w ∷ ws)) a b (drop (filterWords (w ∷ ws)) (w ∷ ws)) (accepted-rest n i t a b (w ∷ ws) (zero-lt-suc (length ws)) e)))
 
 pub accepted-count : (ws : List ℕ) (n t : ℕ) → listed ws ≡ Accepted n t → (length (filtersOf ws) ≡ n) × (testsIn (filtersOf ws) ≡ t) × (n ≤ maxFilters) × (t ≤ maxTests * n)
 unfolding listed filtersOf
