@@ -24,11 +24,12 @@ levelOf fs i = getD fs i noFilter .level
 abbrev pub testsOf : List Filter → ℕ → List Item
 testsOf fs i = getD fs i noFilter .tests
 
--- In one group: the higher level, or the same level and the earlier place.
+-- Filter i of group g and level l above filter j of group h and level m. In one group: the higher level, or the same level and the earlier place.
+unfoldable pub outranks : ℕ → ℕ → ℕ → ℕ → ℕ → ℕ → Bool
+outranks g l i h m j = eqb g h && (ltb m l || (eqb l m && ltb i j))
+
 unfoldable pub above : List Filter → ℕ → ℕ → Bool
-above fs i j =
-    eqb (groupOf fs i) (groupOf fs j) &&
-    (ltb (levelOf fs j) (levelOf fs i) || (eqb (levelOf fs i) (levelOf fs j) && ltb i j))
+above fs i j = outranks (groupOf fs i) (levelOf fs i) i (groupOf fs j) (levelOf fs j) j
 
 unfoldable pub allHold : (ℕ → Reading) → List Item → Bool
 allHold r [] = true
