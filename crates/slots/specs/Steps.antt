@@ -5,6 +5,7 @@
 --   leftOf n k t        what the fact k about field n leaves of the test t, whatever its field
 --   keptWords, keptAt   the words, and the place behind the last kept test, after one more test
 --   finished e d x      d up to place e, then the tests of x, zeros behind
+--   markedSet n m w     the filters whose first word is m
 use Prim.Native.Nat.{ℕ, _+_, _*_, _-_, _≤_, _<_}
 use mathlib.Core.Path.{_≡_}
 use mathlib.Core.Bool.{cond}
@@ -17,9 +18,11 @@ use Rattle.residue.specs.declared.Fact.{Fact}
 use Rattle.residue.specs.declared.Residue.{Residue}
 use Rattle.residue.specs.declared.Residue.the-variants.{True, False, Left}
 use Rattle.fields.specs.Widths.{full}
-use Rattle.lists.specs.Filters.{Item, testWords, itemOf}
+use Rattle.lists.specs.Filters.{Item, maxFilters, maxTests, testWords, itemOf}
 use Rattle.lists.specs.Accepted.{itemWords}
 use Rattle.states.specs.States.{Standing, out, left, cut}
+use Rattle.sets.specs.Sets.{setOf, tally}
+use Rattle.slots.specs.Slots.{headOf}
 use Rattle.slots.specs.Words.{filterSlot, itemsWords, outWords, writtenFilter, readItems}
 
 abbrev pub over : ℕ → List ℕ → List ℕ → List ℕ
@@ -66,4 +69,29 @@ pub record Two (src dst : List ℕ) : Type 0 where
 
 -- The tests are cut; behind place e nothing counts.
 pub record Cut (n : ℕ) (k : Fact) (src d' : List ℕ) (e : ℕ) : Type 0 where
-  pub words : cleared e d' ≡ writtenFilter (cut n k (readItems Rattle.lists.specs.Filters.maxTests src))
+  pub words : cleared e d' ≡ writtenFilter (cut n k (readItems maxTests src))
+
+unfoldable pub markedSet : ℕ → ℕ → List ℕ → ℕ
+markedSet n m w = setOf (tally n (λ i. eqb (headOf w i) m))
+
+-- The words of n filters.
+pub record State (n : ℕ) (w : List ℕ) : Type 0 where
+  pub few : n ≤ maxFilters
+  pub whole : length w ≡ filterSlot * n
+
+-- The words of n filters, and at least as many sets of ranks.
+pub record Ranked (n : ℕ) (ranks w : List ℕ) : Type 0 where
+  pub few : n ≤ maxFilters
+  pub whole : length w ≡ filterSlot * n
+  pub ranked : n ≤ length ranks
+
+pub record Both (n : ℕ) (src dst : List ℕ) : Type 0 where
+  pub few : n ≤ maxFilters
+  pub source : length src ≡ filterSlot * n
+  pub target : length dst ≡ filterSlot * n
+
+pub record Stepped (n : ℕ) (ranks src dst : List ℕ) : Type 0 where
+  pub few : n ≤ maxFilters
+  pub source : length src ≡ filterSlot * n
+  pub target : length dst ≡ filterSlot * n
+  pub ranked : n ≤ length ranks

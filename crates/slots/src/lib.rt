@@ -1,2 +1,99 @@
 // A state as the words of one slot: 32 words a filter, its remaining tests first, zeros behind (specs/Words).
+// n is the number of filters; the slices hold the words of exactly these.
+ghost use mathlib.Core.Path.{_≡_};
+ghost use mathlib.Core.Bool.{cond};
+ghost use mathlib.Core.List.{_∷_, [], _++_};
+ghost use Prim.Native.Nat.{_+_, _*_, _≤_};
+ghost use lib.ListN.{length, drop, getD};
+ghost use Rattle.slots.specs.Words.{filterSlot, outWords, written, writtenFilter};
+ghost use Rattle.slots.specs.Slots.{heldSet, outSetIn, sureSetIn, closedIn, closedWords, questionIn, cutWords, stepWords, startWords, freshWords, sameWords};
+ghost use Rattle.slots.specs.Steps.{markedSet, State, Ranked, Both, Stepped};
+
+use residue::Fact;
+use residue::Outcome;
+
 pub mod filter;
+
+// The words of a test; all 0 where there is none to ask.
+pub struct Question {
+    pub kind: u32,
+    pub field: u32,
+    pub mask: u32,
+    pub value: u32,
+}
+
+// The filters whose first word is a mark.
+fn marked(w: &[u32], n: usize, mark: u32) -> u32
+    requires { ⌜ State n (now w) ⌝ }
+    ensures { λ r. ⌜ r ≡ markedSet n mark (now (w .entry)) ⌝ }
+{
+    let mut set: u32 = 0;
+    let mut i: usize = 0;
+    while i < n {
+        set = sets::put(set, i as u32, w[32 * i] == mark);
+        i += 1;
+    }
+    set
+}
+
+pub fn held_set(w: &[u32], n: usize) -> u32
+    requires { ⌜ State n (now w) ⌝ }
+    ensures { λ r. ⌜ r ≡ heldSet n (now (w .entry)) ⌝ }
+{
+    marked(w, n, 0)
+}
+
+pub fn out_set(w: &[u32], n: usize) -> u32
+    requires { ⌜ State n (now w) ⌝ }
+    ensures { λ r. ⌜ r ≡ outSetIn n (now (w .entry)) ⌝ }
+{
+    marked(w, n, 5)
+}
+
+// A filter's words, made out unless it stays.
+fn stay(w: &mut [u32], stays: bool)
+    requires { ⌜ length (now w) ≡ filterSlot ⌝ }
+    ensures { λ _. ⌜ now (w .exit) ≡ cond stays (now (w .entry)) outWords ⌝ }
+{
+    if !stays {
+        filter::set_out(w);
+    }
+}
+
+// Each filter that ranks below one of the held set made out.
+fn close_by(w: &mut [u32], n: usize, ranks: &[u32], held: u32)
+    requires { ⌜ Ranked n (now ranks) (now w) ⌝ }
+    ensures { λ _. ⌜ now (w .exit) ≡ closedIn n (now (ranks .entry)) held 0 (now (w .entry)) ⌝ }
+{
+    let mut i: usize = 0;
+    while i < n {
+        let from = 32 * i;
+        let to = from + 32;
+        let stays = ranks[i] & held == 0;
+        stay(&mut w[from..to], stays);
+        i += 1;
+    }
+}
+
+// Each filter that ranks below a held one made out.
+pub fn close(w: &mut [u32], n: usize, ranks: &[u32])
+    requires { ⌜ Ranked n (now ranks) (now w) ⌝ }
+    ensures { λ _. ⌜ now (w .exit) ≡ closedWords n (now (ranks .entry)) (now (w .entry)) ⌝ }
+{
+    let held = held_set(w, n);
+    close_by(w, n, ranks, held);
+}
+
+// What a fact about a field leaves of each filter.
+fn cut_all(src: &[u32], dst: &mut [u32], n: usize, field: u32, fact: Fact)
+    requires { ⌜ Both n (now src) (now dst) ⌝ }
+    ensures { λ _. ⌜ now (dst .exit) ≡ cutWords n field fact (now (src .entry)) ⌝ }
+{
+    let mut i: usize = 0;
+    while i < n {
+        let from = 32 * i;
+        let to = from + 32;
+        filter::cut_filter(&src[from..to], &mut dst[from..to], field, fact);
+        i += 1;
+    }
+}

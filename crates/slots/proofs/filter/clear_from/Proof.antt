@@ -34,7 +34,7 @@ loop-less : tie.Need-loop-less Inv-loop μ-loop
 loop-less c = simp length-set (omega arith)
 
 loop-again : tie.Need-loop-again Inv-loop μ-loop
-loop-again c = let b = c .before in (length-set _ _ _ ∙ b .loop .inv .0, cleared-step _ _ (c .loop-test .taken) ∙ b .loop .inv .1)
+loop-again c = let l = c .before .loop in (simp length-set (l .inv .0), cleared-step (l .dst) (l .i) (c .loop-test .taken) ∙ l .inv .1)
 
 same-length : tie.Need-same-length Inv-loop μ-loop
 same-length c = c .before .loop .inv .0
