@@ -95,3 +95,12 @@ pub record Stepped (n : ℕ) (ranks src dst : List ℕ) : Type 0 where
   pub source : length src ≡ filterSlot * n
   pub target : length dst ≡ filterSlot * n
   pub ranked : n ≤ length ranks
+
+abbrev pub freshLength : ℕ
+freshLength = 9
+
+pub record Recorded (n : ℕ) (ranks w rec : List ℕ) : Type 0 where
+  pub few : n ≤ maxFilters
+  pub whole : length w ≡ filterSlot * n
+  pub ranked : n ≤ length ranks
+  pub room : freshLength ≤ length rec

@@ -7,7 +7,7 @@ ghost use Prim.Native.Nat.{_+_, _*_, _≤_};
 ghost use lib.ListN.{length, drop, getD};
 ghost use Rattle.slots.specs.Words.{filterSlot, outWords, written, writtenFilter};
 ghost use Rattle.slots.specs.Slots.{heldSet, outSetIn, sureSetIn, closedIn, closedWords, questionIn, cutWords, stepWords, startWords, freshWords, sameWords};
-ghost use Rattle.slots.specs.Steps.{markedSet, State, Ranked, Both, Stepped};
+ghost use Rattle.slots.specs.Steps.{freshLength, markedSet, State, Ranked, Both, Stepped, Recorded};
 
 use residue::Fact;
 use residue::Outcome;
@@ -96,4 +96,92 @@ fn cut_all(src: &[u32], dst: &mut [u32], n: usize, field: u32, fact: Fact)
         filter::cut_filter(&src[from..to], &mut dst[from..to], field, fact);
         i += 1;
     }
+}
+
+// Held, and every filter that ranks above it is out.
+pub fn sure_set(w: &[u32], n: usize, ranks: &[u32]) -> u32
+    requires { ⌜ Ranked n (now ranks) (now w) ⌝ }
+    ensures { λ r. ⌜ r ≡ sureSetIn n (now (ranks .entry)) (now (w .entry)) ⌝ }
+{
+    let out = out_set(w, n);
+    let mut set: u32 = 0;
+    let mut i: usize = 0;
+    while i < n {
+        let sure = (w[32 * i] == 0) & (ranks[i] & !out == 0);
+        set = sets::put(set, i as u32, sure);
+        i += 1;
+    }
+    set
+}
+
+// The first test of the first filter that has any.
+pub fn question_of(w: &[u32], n: usize) -> Question
+    requires { ⌜ State n (now w) ⌝ }
+    ensures { λ r. ⌜ r .kind ∷ r .field ∷ r .mask ∷ r .value ∷ [] ≡ questionIn n (now (w .entry)) ⌝ }
+{
+    let mut i: usize = 0;
+    while i < n {
+        let at = 32 * i;
+        let kind = w[at];
+        if (kind != 0) & (kind != 5) {
+            return Question {
+                kind,
+                field: w[at + 1],
+                mask: w[at + 2],
+                value: w[at + 3],
+            };
+        }
+        i += 1;
+    }
+    Question {
+        kind: 0,
+        field: 0,
+        mask: 0,
+        value: 0,
+    }
+}
+
+// The state after the question of src came to an outcome.
+pub fn step_into(src: &[u32], dst: &mut [u32], n: usize, ranks: &[u32], outcome: Outcome)
+    requires { ⌜ Stepped n (now ranks) (now src) (now dst) ⌝ }
+    ensures { λ _. ⌜ now (dst .exit) ≡ stepWords n (now (ranks .entry)) outcome (now (src .entry)) ⌝ }
+{
+    let asked = question_of(src, n);
+    let field = asked.field;
+    let test = filter::test_of(asked.kind, asked.mask, asked.value);
+    let fact = residue::fact_of(fields::full_of(field), outcome, test);
+    cut_all(src, dst, n, field, fact);
+    close(dst, n, ranks);
+}
+
+// The first nine words of a record: the question, no next states yet, the sure set and the out set.
+pub fn write_record(w: &[u32], n: usize, ranks: &[u32], rec: &mut [u32])
+    requires { ⌜ Recorded n (now ranks) (now w) (now rec) ⌝ }
+    ensures { λ _. ⌜ now (rec .exit) ≡ freshWords n (now (ranks .entry)) (now (w .entry)) ++ drop freshLength (now (rec .entry)) ⌝ }
+{
+    let asked = question_of(w, n);
+    rec[0] = asked.kind;
+    rec[1] = asked.field;
+    rec[2] = asked.mask;
+    rec[3] = asked.value;
+    rec[4] = 0;
+    rec[5] = 0;
+    rec[6] = 0;
+    rec[7] = sure_set(w, n, ranks);
+    rec[8] = out_set(w, n);
+}
+
+// The same words; the first that differ decide.
+pub fn same(a: &[u32], b: &[u32]) -> bool
+    requires { ⌜ length (now a) ≡ length (now b) ⌝ }
+    ensures { λ r. ⌜ r ≡ sameWords (now (a .entry)) (now (b .entry)) ⌝ }
+{
+    let mut i: usize = 0;
+    while i < a.len() {
+        if a[i] != b[i] {
+            return false;
+        }
+        i += 1;
+    }
+    true
 }

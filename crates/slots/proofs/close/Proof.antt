@@ -1,0 +1,22 @@
+use borrow.Author.Needs.{needs}
+use Rattle.slots.proofs.close.Statement.{statement}
+use Rattle.slots.proofs.close.Tie as tie
+use Rattle.slots.proofs.close.Reads as reads
+use Rattle.slots.proofs.close.Lts as lts
+use Rattle.slots.proofs.close_by.Reads as close-by-reads
+use Rattle.slots.proofs.held_set.Reads as held-set-reads
+
+held-set-requires : tie.Need-held-set-requires
+held-set-requires c κs = search needs
+
+close-by-requires : tie.Need-close-by-requires
+close-by-requires c κs = search needs
+
+same-length : tie.Need-same-length
+same-length c = search needs
+
+returns : tie.Need-returns
+returns c = search needs
+
+pub close-spec : {M : Type 1} → statement M
+close-spec = tie.close (tie.spec held-set-requires close-by-requires same-length returns)
