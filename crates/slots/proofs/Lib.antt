@@ -1,3 +1,5 @@
 pub mod Cutting
 pub mod Parts
 pub mod Sets
+pub mod Questions
+pub mod Sameness

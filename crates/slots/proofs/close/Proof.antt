@@ -1,3 +1,7 @@
+-- `slots::close` meets its contract. Closing is by the set of held filters.
+-- Assumes nothing.
+use Rattle.slots.specs.Slots.{closedIn, closedWords}
+use mathlib.Core.Path.{ap, _∙_}
 use borrow.Author.Needs.{needs}
 use Rattle.slots.proofs.close.Statement.{statement}
 use Rattle.slots.proofs.close.Tie as tie
@@ -16,7 +20,11 @@ same-length : tie.Need-same-length
 same-length c = search needs
 
 returns : tie.Need-returns
-returns c = search needs
+unfolding closedWords
+returns c =
+    let h = c .before .before .before .before in
+    let a = h .before .before .before .before .args in
+    c .before .before .close-by .ensures ∙ ap (λ x. closedIn (a .n) (a .ranks .now) x 0 (a .w .now)) (h .held-set .ensures)
 
 pub close-spec : {M : Type 1} → statement M
 close-spec = tie.close (tie.spec held-set-requires close-by-requires same-length returns)

@@ -1,3 +1,11 @@
+-- `slots::sure_set` meets its contract. The loop's invariant: the set holds the sure filters below i.
+-- Assumes nothing.
+use Rattle.slots.proofs.Sets.{sureAt, sure-asked, sure-more, put-bound}
+use Rattle.slots.specs.Slots.{sureSetIn}
+use Rattle.sets.specs.Sets.{setOf, tally}
+use native.Mathlib.Omega.{arith}
+use mathlib.Core.Path.{_≡_, refl, ap, _∙_}
+use Prim.Native.Nat.{_≤_, _-_, _^_, _<_}
 use borrow.Author.Needs.{needs}
 use Rattle.slots.proofs.sure_set.Statement.{statement}
 use Rattle.slots.proofs.sure_set.Tie as tie
@@ -7,16 +15,17 @@ use Rattle.sets.proofs.put.Reads as put-reads
 use Rattle.slots.proofs.out_set.Reads as out-set-reads
 
 abbrev Inv-loop : tie.InvT-loop
-Inv-loop w n ranks out set₀ i₀ set i = ?
+Inv-loop w n ranks out set₀ i₀ set i = (i ≤ n) × (set ≡ setOf (tally i (sureAt ranks out w)))
 
 abbrev μ-loop : tie.MeasureT-loop
-μ-loop w n ranks out set₀ i₀ set i = ?
+μ-loop w n ranks out set₀ i₀ set i = n - i
 
 out-set-requires : tie.Need-out-set-requires Inv-loop μ-loop
 out-set-requires c κs = search needs
 
 loop-holds : tie.Need-loop-holds Inv-loop μ-loop
-loop-holds c = search needs
+unfolding setOf tally
+loop-holds c = (omega arith, refl)
 
 mul-sure : tie.Need-mul-sure Inv-loop μ-loop
 mul-sure c = search needs
@@ -37,7 +46,11 @@ cast-put : tie.Need-cast-put Inv-loop μ-loop
 cast-put c = search needs
 
 put-requires : tie.Need-put-requires Inv-loop μ-loop
-put-requires c κs = search needs
+put-requires c κs =
+    let l = c .before .before .before .loop in
+    let o = c .before .before .before .before in
+    let a = o .before .before .before .args in
+    (omega arith, put-bound (sureAt (a .ranks .now) (o .out-set .result) (a .w .now)) (l .i) (l .set) (l .inv .1))
 
 add-i : tie.Need-add-i Inv-loop μ-loop
 add-i c = search needs
@@ -46,10 +59,16 @@ loop-less : tie.Need-loop-less Inv-loop μ-loop
 loop-less c = search needs
 
 loop-again : tie.Need-loop-again Inv-loop μ-loop
-loop-again c = search needs
+loop-again c = ?
 
 returns : tie.Need-returns Inv-loop μ-loop
-returns c = search needs
+unfolding sureSetIn
+returns c =
+    let l = c .before .loop in
+    let o = c .before .before in
+    let a = o .before .before .before .args in
+    let e : l .i ≡ a .n = omega arith in
+    l .inv .1 ∙ ap (λ i. setOf (tally i (sureAt (a .ranks .now) (o .out-set .result) (a .w .now)))) e ∙ ap (λ x. setOf (tally (a .n) (sureAt (a .ranks .now) x (a .w .now)))) (o .out-set .ensures)
 
 pub sure-set-spec : {M : Type 1} → statement M
 sure-set-spec =
