@@ -3,3 +3,4 @@ pub mod Parts
 pub mod Sets
 pub mod Questions
 pub mod Sameness
+pub mod Stepping

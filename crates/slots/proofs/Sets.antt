@@ -44,3 +44,8 @@ sure-asked ranks out w i g h =
 
 pub sure-more : (ranks : List ℕ) (out : ℕ) (w : List ℕ) (i s r : ℕ) (b : Bool) → s ≡ setOf (tally i (sureAt ranks out w)) → b ≡ sureAt ranks out w i → r ≡ bit b * 2 ^ i + s → r ≡ setOf (tally (i + 1) (sureAt ranks out w))
 sure-more ranks out w i s r b e f h = put-more (sureAt ranks out w) i s r e (h ∙ ap (λ (x : Bool). bit x * 2 ^ i + s) f)
+
+pub sure-turn : (ranks : List ℕ) (out : ℕ) (w : List ℕ) (i s r : ℕ) → getD ranks i 0 < 2 ^ 32 → out < 2 ^ 32 → s ≡ setOf (tally i (sureAt ranks out w))
+    → r ≡ bit (eqb (getD w (filterSlot * i) 0) 0 && eqb (bitAnd (getD ranks i 0) (2 ^ 32 - 1 - out)) 0) * 2 ^ i + s → r ≡ setOf (tally (i + 1) (sureAt ranks out w))
+sure-turn ranks out w i s r g k e h =
+    sure-more ranks out w i s r (eqb (getD w (filterSlot * i) 0) 0 && eqb (bitAnd (getD ranks i 0) (2 ^ 32 - 1 - out)) 0) e (sure-asked ranks out w i g k) h

@@ -1,6 +1,7 @@
 -- `slots::sure_set` meets its contract. The loop's invariant: the set holds the sure filters below i.
 -- Assumes nothing.
-use Rattle.slots.proofs.Sets.{sureAt, sure-asked, sure-more, put-bound}
+use Rattle.slots.proofs.Stepping.{out-bound}
+use Rattle.slots.proofs.Sets.{sureAt, sure-turn, put-bound}
 use Rattle.slots.specs.Slots.{sureSetIn}
 use Rattle.sets.specs.Sets.{setOf, tally}
 use native.Mathlib.Omega.{arith}
@@ -59,7 +60,12 @@ loop-less : tie.Need-loop-less Inv-loop μ-loop
 loop-less c = search needs
 
 loop-again : tie.Need-loop-again Inv-loop μ-loop
-loop-again c = ?
+loop-again c =
+    let l = c .before .before .before .before in
+    let o = l .before in
+    let s = o .before .before .before in
+    let a = s .args in
+    (omega arith, sure-turn (a .ranks .now) (o .out-set .result) (a .w .now) (l .loop .i) (l .loop .set) (c .put .result) (c .before .shared-slice-known4 .given (l .loop .i) .fits) (out-bound (a .n) (a .w .now) (o .out-set .result) (s .pre .few) (o .out-set .ensures)) (l .loop .inv .1) (c .put .ensures))
 
 returns : tie.Need-returns Inv-loop μ-loop
 unfolding sureSetIn
