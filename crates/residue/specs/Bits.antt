@@ -73,9 +73,9 @@ outside-twice : (a k : ℕ) → outside (bitAnd a k) k ≡ 0
 unfolding outside
 outside-twice a k = omega (arith, and-twice a k)
 
--- What is taken away is gone.
-pub outside-and : (m k : ℕ) → bitAnd (outside m k) k ≡ 0
-outside-and m k = and-comm (outside m k) k ∙ and-outside k m k ∙ ap (λ (x : ℕ). outside x k) (and-comm k m) ∙ outside-twice m k
+-- The mask of a reduced test lies outside the known bits.
+pub reduced-outside : (m k : ℕ) → bitAnd (outside m k) k ≡ 0
+reduced-outside m k = and-comm (outside m k) k ∙ and-outside k m k ∙ ap (λ (x : ℕ). outside x k) (and-comm k m) ∙ outside-twice m k
 
 pub outside-in : (m k : ℕ) → bitAnd (outside m k) m ≡ outside m k
 outside-in m k = and-comm (outside m k) m ∙ and-outside m m k ∙ ap (λ (x : ℕ). outside x k) (and-self m)

@@ -6,4 +6,8 @@ pub mod Choice
 pub mod Bits
 pub mod Lines
 pub mod Sound
+pub mod Questions
+pub mod Narrowing
+pub mod Spent
 pub mod Laws
+pub mod Cases

@@ -24,11 +24,12 @@ unfolding wellMasked
 masked full m v e =
     let abc = first (not (eqb m 0) && leb m full && leb v full) (eqb (bitAnd v m) v) e in
     let ab = first (not (eqb m 0) && leb m full) (leb v full) abc in
-    record
-      { some = eqb-false m 0 (not-true (eqb m 0) (first (not (eqb m 0)) (leb m full) ab));
-        mask = leb-true m full (second (not (eqb m 0)) (leb m full) ab);
-        value = leb-true v full (second (not (eqb m 0) && leb m full) (leb v full) abc);
-        inside = eqb-true (bitAnd v m) v (second (not (eqb m 0) && leb m full && leb v full) (eqb (bitAnd v m) v) e) }
+    record {
+      some = eqb-false m 0 (not-true (eqb m 0) (first (not (eqb m 0)) (leb m full) ab));
+      mask = leb-true m full (second (not (eqb m 0)) (leb m full) ab);
+      value = leb-true v full (second (not (eqb m 0) && leb m full) (leb v full) abc);
+      inside = eqb-true (bitAnd v m) v (second (not (eqb m 0) && leb m full && leb v full) (eqb (bitAnd v m) v) e);
+    }
 
 -- x & k = w.
 module _ (x k w : ℕ) (e : bitAnd x k ≡ w) (m v : ℕ) where
@@ -41,9 +42,9 @@ module _ (x k w : ℕ) (e : bitAnd x k ≡ w) (m v : ℕ) where
   pub masked-left : eqb (bitAnd v k) (bitAnd w m) ≡ true → eqb (bitAnd x m) v ≡ eqb (bitAnd x (outside m k)) (outside v k)
   masked-left h =
       same-eqb (bitAnd x m) v (bitAnd x (outside m k)) (outside v k)
-        (λ q. and-outside x m k ∙ ap (λ (y : ℕ). outside y k) q)
-        (λ (q : bitAnd x (outside m k) ≡ outside v k).
-          omega (arith, and-outside x m k, q, and-add-outside (bitAnd x m) k, and-add-outside v k, meet, eqb-true (bitAnd v k) (bitAnd w m) h))
+      (λ q. and-outside x m k ∙ ap (λ (y : ℕ). outside y k) q)
+      (λ (q : bitAnd x (outside m k) ≡ outside v k).
+      omega (arith, and-outside x m k, q, and-add-outside (bitAnd x m) k, and-add-outside v k, meet, eqb-true (bitAnd v k) (bitAnd w m) h))
 
 -- No bits left of the mask, none left of a value inside it.
 pub none-left : (x m v k : ℕ) → bitAnd v m ≡ v → eqb (outside m k) 0 ≡ true → eqb (bitAnd x (outside m k)) (outside v k) ≡ true
@@ -59,7 +60,7 @@ differs-clash x k w m v h e =
     let i = eqb-true (bitAnd k m) k (first (eqb (bitAnd k m) k) (eqb (bitAnd v k) w) e) in
     let j = eqb-true (bitAnd v k) w (second (eqb (bitAnd k m) k) (eqb (bitAnd v k) w) e) in
     ne-eqb (bitAnd x m) v
-      (λ q. h (ap (bitAnd x) (sym i ∙ and-comm k m) ∙ sym (and-assoc x m k) ∙ ap (λ (y : ℕ). bitAnd y k) q ∙ j))
+    (λ q. h (ap (bitAnd x) (sym i ∙ and-comm k m) ∙ sym (and-assoc x m k) ∙ ap (λ (y : ℕ). bitAnd y k) q ∙ j))
 
 -- x ≤ b, where v is above b.
 pub at-most-clash : (x b m v : ℕ) → x ≤ b → ltb b v ≡ true → eqb (bitAnd x m) v ≡ false

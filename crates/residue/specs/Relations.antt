@@ -5,7 +5,8 @@
 --   equalOf p u     u is an equal test whose mask and value have p; and so for each kind
 --   sameTest a b    a and b are the same test
 --   narrows t u     u is t on some of its bits, and of its kind; a bound stays as it is
---   repeats q u     all that the question q asks is still asked by u
+--   repeats q u     all that the question q asks is asked by u
+--   spent q u       not all that the question q asks is asked by u
 use Prim.Native.Nat.{ℕ}
 use mathlib.Core.Bool.{Bool, true, false, not, _&&_}
 use lib.Dec.{leb, eqb}
@@ -85,3 +86,6 @@ repeats (Equal k w) u = maskedOf (λ m v. covers m v k w) u
 repeats (Differs k w) u = maskedOf (λ m v. covers m v k w) u
 repeats (AtMost c) u = atMostOf (eqb c) u
 repeats (AtLeast c) u = atLeastOf (eqb c) u
+
+unfoldable pub spent : Test → Test → Bool
+spent q u = not (repeats q u)

@@ -62,28 +62,28 @@ module _ (n full : ℕ) (f : full ≡ 2 ^ n - 1) where
     unfolding holds remains fromMasked reducedEqual reducedDiffers wellFormed
     masked-sound (Equal m v) ht =
         by-cond (λ (d : Residue). eqb (bitAnd x m) v ≡ remains d (R.Value x)) (eqb (bitAnd v k) (bitAnd w m))
-          (λ h. masked-left x k w e m v h ∙ settle (Equal (outside m k) (outside v k)) x (eqb (outside m k) 0) True (none-left x m v k (masked full m v ht .inside)))
-          (masked-clash x k w e m v)
+        (λ h. masked-left x k w e m v h ∙ settle (Equal (outside m k) (outside v k)) x (eqb (outside m k) 0) True (none-left x m v k (masked full m v ht .inside)))
+        (masked-clash x k w e m v)
     masked-sound (Differs m v) ht =
         by-cond (λ (d : Residue). not (eqb (bitAnd x m) v) ≡ remains d (R.Value x)) (eqb (bitAnd v k) (bitAnd w m))
-          (λ h. ap not (masked-left x k w e m v h)
-            ∙ settle (Differs (outside m k) (outside v k)) x (eqb (outside m k) 0) False (λ z. ap not (none-left x m v k (masked full m v ht .inside) z)))
-          (λ h. ap not (masked-clash x k w e m v h))
+        (λ h. ap not (masked-left x k w e m v h)
+        ∙ settle (Differs (outside m k) (outside v k)) x (eqb (outside m k) 0) False (λ z. ap not (none-left x m v k (masked full m v ht .inside) z)))
+        (λ h. ap not (masked-clash x k w e m v h))
     masked-sound (AtMost c) ht =
         by-cond (λ (d : Residue). leb x c ≡ remains d (R.Value x)) (ltb c w)
-          (λ h. lt-leb x c (omega (arith, ltb-true c w h, and-le-l x k, e)))
-          (λ _. settle (AtMost c) x (leb (w + (full - k)) c) True (λ h. le-leb x c (omega (arith, leb-true (w + (full - k)) c h, le-and-add n full f x k hx hk, e))))
+        (λ h. lt-leb x c (omega (arith, ltb-true c w h, and-le-l x k, e)))
+        (λ _. settle (AtMost c) x (leb (w + (full - k)) c) True (λ h. le-leb x c (omega (arith, leb-true (w + (full - k)) c h, le-and-add n full f x k hx hk, e))))
     masked-sound (AtLeast c) ht =
         by-cond (λ (d : Residue). leb c x ≡ remains d (R.Value x)) (leb c w)
-          (λ h. le-leb c x (omega (arith, leb-true c w h, and-le-l x k, e)))
-          (λ _. settle (AtLeast c) x (ltb (w + (full - k)) c) False (λ h. lt-leb c x (omega (arith, ltb-true (w + (full - k)) c h, le-and-add n full f x k hx hk, e))))
+        (λ h. le-leb c x (omega (arith, leb-true c w h, and-le-l x k, e)))
+        (λ _. settle (AtLeast c) x (ltb (w + (full - k)) c) False (λ h. lt-leb c x (omega (arith, ltb-true (w + (full - k)) c h, le-and-add n full f x k hx hk, e))))
 
     equal-sound : (t : Test) → wellFormed full t ≡ true → holds t x ≡ remains (fromEqual full k w t) (R.Value x)
     unfolding fromEqual
     equal-sound t ht =
         by-cond (λ (d : Residue). holds t x ≡ remains d (R.Value x)) (eqb k full)
-          (λ h. ap (holds t) (sym (and-full n full f x hx) ∙ ap (bitAnd x) (sym (eqb-true k full h)) ∙ e) ∙ sym (remains-settled (holds t w) (R.Value x)))
-          (λ _. masked-sound t ht)
+        (λ h. ap (holds t) (sym (and-full n full f x hx) ∙ ap (bitAnd x) (sym (eqb-true k full h)) ∙ e) ∙ sym (remains-settled (holds t w) (R.Value x)))
+        (λ _. masked-sound t ht)
 
   known-sound : (g t : Test) (x : ℕ) → wellFormed full g ≡ true → wellFormed full t ≡ true → x ≤ full → holds g x ≡ true
       → holds t x ≡ remains (residueBy full (F.Known g) t) (R.Value x)
