@@ -31,7 +31,7 @@ put-four d at k f m v h = rw (add-one at, add-two at, add-three at) (sets-eq (k 
 replicate-suc : (a b : ℕ) → a ≡ suc b → replicate {A = ℕ} a 0 ≡ 0 ∷ replicate {A = ℕ} b 0
 replicate-suc a b e = ap (λ (n : ℕ). replicate {A = ℕ} n 0) e
 
-zeros : (a b : ℕ) → a ≡ b → replicate {A = ℕ} a 0 ≡ replicate {A = ℕ} b 0
+pub zeros : (a b : ℕ) → a ≡ b → replicate {A = ℕ} a 0 ≡ replicate {A = ℕ} b 0
 zeros a b e = ap (λ (n : ℕ). replicate {A = ℕ} n 0) e
 
 pub cleared-step : (d : List ℕ) (i : ℕ) → i < length d → cleared (i + 1) (set d i 0) ≡ cleared i d
@@ -76,11 +76,11 @@ cut-step n k t ts = go (eqb (t .field) n) refl
     go true e = ap (λ (f : ℕ). join f (residueBy (full n) k (t .test)) (cut n k ts)) (sym (eqb-true (t .field) n e))
     go false e = refl
 
-length-item : (it : Item) → length (itemWords it) ≡ testWords
+pub length-item : (it : Item) → length (itemWords it) ≡ testWords
 unfolding itemWords
 length-item it = refl
 
-take-over : (e : ℕ) (ws d : List ℕ) → e ≤ length d → take (e + length ws) (over e ws d) ≡ take e d ++ ws
+pub take-over : (e : ℕ) (ws d : List ℕ) → e ≤ length d → take (e + length ws) (over e ws d) ≡ take e d ++ ws
 take-over e ws d h = take-at (take e d ++ ws) (drop (e + length ws) d) (e + length ws) (length-append (take e d) ws ∙ ap (λ (n : ℕ). n + length ws) (length-take-le e d h))
 
 finished-keep : (e : ℕ) (d : List ℕ) (t : Item) (x : Standing) → e ≤ length d → finished (e + testWords) (over e (itemWords t) d) x ≡ finished e d (keep t x)

@@ -4,3 +4,4 @@ pub mod Sets
 pub mod Questions
 pub mod Sameness
 pub mod Stepping
+pub mod Starting

@@ -19,7 +19,9 @@ use Rattle.residue.specs.declared.Residue.{Residue}
 use Rattle.residue.specs.declared.Residue.the-variants.{True, False, Left}
 use Rattle.fields.specs.Widths.{full}
 use Rattle.lists.specs.Filters.{Item, maxFilters, maxTests, testWords, itemOf}
+use Rattle.lists.specs.Refusals.{listed}
 use Rattle.lists.specs.Accepted.{itemWords}
+use Rattle.lists.specs.declared.Listed.the-variants.{Accepted}
 use Rattle.states.specs.States.{Standing, out, left, cut}
 use Rattle.sets.specs.Sets.{setOf, tally}
 use Rattle.slots.specs.Slots.{headOf}
@@ -104,3 +106,14 @@ pub record Recorded (n : ℕ) (ranks w rec : List ℕ) : Type 0 where
   pub whole : length w ≡ filterSlot * n
   pub ranked : n ≤ length ranks
   pub room : freshLength ≤ length rec
+
+-- So many tests from a place of a list on, and one filter's words.
+pub record Tests (at count : ℕ) (list dst : List ℕ) : Type 0 where
+  pub few : count ≤ maxTests
+  pub inside : at + testWords * count ≤ length list
+  pub one : length dst ≡ filterSlot
+
+-- An accepted list of n filters, and the words of n filters.
+pub record Starts (n : ℕ) (list dst : List ℕ) : Type 0 where
+  pub accepted : (t : ℕ) × (listed list ≡ Accepted n t)
+  pub target : length dst ≡ filterSlot * n

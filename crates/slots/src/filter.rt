@@ -1,13 +1,13 @@
 // One filter's 32 words.
 ghost use mathlib.Core.Path.{_≡_};
-ghost use Prim.Native.Nat.{_+_, _≤_};
-ghost use lib.ListN.{length, drop};
+ghost use Prim.Native.Nat.{_+_, _*_, _≤_};
+ghost use lib.ListN.{length, take, drop};
 ghost use mathlib.Core.List.{_∷_, []};
-ghost use Rattle.lists.specs.Filters.{testWords, testOf, itemOf};
+ghost use Rattle.lists.specs.Filters.{testWords, testOf, itemOf, itemsOf};
 ghost use Rattle.lists.specs.Accepted.{itemWords};
-ghost use Rattle.states.specs.States.{cutStanding};
-ghost use Rattle.slots.specs.Words.{filterSlot, outWords, writtenFilter, readFilter};
-ghost use Rattle.slots.specs.Steps.{over, cleared, item, leftOf, Room, Kept, Two, Cut};
+ghost use Rattle.states.specs.States.{cutStanding, left};
+ghost use Rattle.slots.specs.Words.{filterSlot, itemsWords, outWords, writtenFilter, readFilter};
+ghost use Rattle.slots.specs.Steps.{over, cleared, item, leftOf, Room, Kept, Two, Cut, Tests};
 
 use residue::Fact;
 use residue::Residue;
@@ -132,4 +132,28 @@ pub fn cut_filter(src: &[u32], dst: &mut [u32], field: u32, fact: Fact)
         let end = cut_tests(src, dst, field, fact);
         clear_from(dst, end);
     }
+}
+
+// So many tests of a list, from a place on, in front of a filter's words.
+fn put_tests(list: &[u32], at: usize, count: usize, dst: &mut [u32])
+    requires { ⌜ Tests at count (now list) (now dst) ⌝ }
+    ensures { λ _. ⌜ take (testWords * count) (now (dst .exit)) ≡ itemsWords (itemsOf count (drop at (now (list .entry)))) ⌝ }
+{
+    let mut test: usize = 0;
+    while test < count {
+        let to = 4 * test;
+        let from = at + to;
+        let read = test_of(list[from], list[from + 2], list[from + 3]);
+        put_test(dst, to, list[from + 1], read);
+        test += 1;
+    }
+}
+
+// A filter at the start: all its tests, zeros behind.
+pub fn fill(list: &[u32], at: usize, count: usize, dst: &mut [u32])
+    requires { ⌜ Tests at count (now list) (now dst) ⌝ }
+    ensures { λ _. ⌜ now (dst .exit) ≡ writtenFilter (left (itemsOf count (drop at (now (list .entry))))) ⌝ }
+{
+    put_tests(list, at, count, dst);
+    clear_from(dst, 4 * count);
 }

@@ -2,12 +2,14 @@
 // n is the number of filters; the slices hold the words of exactly these.
 ghost use mathlib.Core.Path.{_≡_};
 ghost use mathlib.Core.Bool.{cond};
-ghost use mathlib.Core.List.{_∷_, [], _++_};
+ghost use mathlib.Core.List.{_∷_, [], _++_, map};
 ghost use Prim.Native.Nat.{_+_, _*_, _≤_};
 ghost use lib.ListN.{length, drop, getD};
+ghost use Rattle.lists.specs.Filters.{filtersOf};
+ghost use Rattle.states.specs.States.{allLeft};
 ghost use Rattle.slots.specs.Words.{filterSlot, outWords, written, writtenFilter};
 ghost use Rattle.slots.specs.Slots.{heldSet, outSetIn, sureSetIn, closedIn, closedWords, questionIn, cutWords, stepWords, startWords, freshWords, sameWords};
-ghost use Rattle.slots.specs.Steps.{freshLength, markedSet, State, Ranked, Both, Stepped, Recorded};
+ghost use Rattle.slots.specs.Steps.{freshLength, markedSet, State, Ranked, Both, Stepped, Recorded, Starts};
 
 use residue::Fact;
 use residue::Outcome;
@@ -184,4 +186,32 @@ pub fn same(a: &[u32], b: &[u32]) -> bool
         i += 1;
     }
     true
+}
+
+// Every filter of an accepted list with all its tests. A filter begins where the one before it ends.
+fn fill_all(list: &[u32], dst: &mut [u32], n: usize)
+    requires { ⌜ Starts n (now list) (now dst) ⌝ }
+    ensures { λ _. ⌜ now (dst .exit) ≡ written (map allLeft (filtersOf (now (list .entry)))) ⌝ }
+{
+    let mut at: usize = 0;
+    let mut i: usize = 0;
+    while i < n {
+        let from = 32 * i;
+        let to = from + 32;
+        let count = list[at + 2] as usize;
+        let tests = at + 3;
+        filter::fill(list, tests, count, &mut dst[from..to]);
+        at = tests + 4 * count;
+        i += 1;
+    }
+}
+
+// The start of an accepted list of n filters.
+pub fn start_into(list: &[u32], dst: &mut [u32], n: usize, ranks: &[u32])
+    requires { ⌜ Starts n (now list) (now dst) ⌝ }
+    requires { ⌜ n ≤ length (now ranks) ⌝ }
+    ensures { λ _. ⌜ now (dst .exit) ≡ startWords n (now (ranks .entry)) (now (list .entry)) ⌝ }
+{
+    fill_all(list, dst, n);
+    close(dst, n, ranks);
 }
