@@ -1,4 +1,5 @@
 // A list is compiled into a lent table (document 01, "States and the table" and "Refusal numbers").
+pub mod meet;
 pub mod place;
 pub mod words;
 

@@ -1,14 +1,14 @@
 // States are met and placed: each state builds its ways and each way builds its state.
+use crate::meet::{asks, meet};
 use crate::{Met, Room};
 use residue::Outcome;
 
 ghost use mathlib.Core.Path.{_≡_};
 ghost use Prim.Native.Nat.{_+_, _*_};
 ghost use Rattle.automaton.specs.Placing.{placeState, placeWay, nextWord};
-ghost use Rattle.slots.specs.Slots.{stepWords, asksIn};
 ghost use Rattle.machine.specs.Box.{slotsIn};
 ghost use Rattle.builder.specs.Memory.{slotAt, memoryOf};
-ghost use Rattle.builder.specs.Promises.{Ready, Placing, Meeting};
+ghost use Rattle.builder.specs.Promises.{Ready, Placing};
 
 // The word of a record that holds the next number at an outcome.
 fn next_word(o: Outcome) -> usize
@@ -19,30 +19,6 @@ fn next_word(o: Outcome) -> usize
         Outcome::Fails => 5,
         Outcome::Absent => 6,
     }
-}
-
-// Meets the state that an outcome leads to from the state in slot `at`.
-fn meet(
-    ranks: &[u32],
-    n: usize,
-    slots: usize,
-    table: &mut [u32],
-    scratch: &mut [u32],
-    at: usize,
-    o: Outcome,
-    used: usize,
-) -> Met
-    requires { ⌜ Ready n slots (now ranks) at used (now table) (now scratch) ⌝ }
-    ensures { λ r. ⌜ Meeting n slots (now (ranks .entry)) used (now (table .entry)) (now (scratch .entry)) (stepWords n (now (ranks .entry)) o (slotAt n (now (scratch .entry)) at)) r (now (table .exit)) (now (scratch .exit)) ⌝ }
-{
-    Met::Full
-}
-
-// Whether the state in slot `at` has a question.
-fn asks(scratch: &[u32], n: usize, at: usize) -> bool
-    ensures { λ r. ⌜ r ≡ asksIn n (slotAt n (now (scratch .entry)) at) ⌝ }
-{
-    false
 }
 
 // Builds the way of an outcome from the state in slot `at`: its state, and that state's ways if it is new, of which at most `left` questions follow one another.
