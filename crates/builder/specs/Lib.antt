@@ -3,3 +3,5 @@ pub mod Memory
 pub mod Promises
 pub mod MemoryLaws
 pub mod Placed
+pub mod Building
+pub mod Starting

@@ -1,6 +1,7 @@
 // A list is compiled into a lent table (document 01, "States and the table" and "Refusal numbers").
 pub mod meet;
 pub mod place;
+pub mod start;
 pub mod words;
 
 // The number of states, or a refusal's number with the filter's number or 0.

@@ -54,7 +54,7 @@ fn place_way(
 }
 
 // Builds the ways of the state in slot `at`, each to its end before the next; at most `left` questions follow one another.
-fn place_state(
+pub fn place_state(
     ranks: &[u32],
     n: usize,
     slots: usize,
