@@ -1,8 +1,8 @@
 -- What the code does with words is what the definitions of states say: on the words of a state s of the list fs that fits its slot, each function on words gives the words, or the set, of its counterpart.
 --   questionWords a   the words of a question; zeros where nothing is asked
 -- Encoding: fitsSlot, fits-start, fits-step, fits-next, length-written, read-written, written-injective.
--- Sets: held-written, out-written, sure-written. Steps: closed-written, cut-written, step-written, start-written.
--- Questions: question-written, asks-written, none-written. Records: fresh-written. Sameness: same-words-eq, same-words-refl, same-written.
+-- Sets: held-written, out-written, sure-written. Steps: closed-written, cut-written, step-written, start-written, start-accepted.
+-- Questions: question-written, asks-written, none-written. Records: fresh-written, fresh-nine, length-question. Sameness: same-words-eq, same-words-refl, same-written.
 use Prim.Native.Nat.{ℕ, zero, suc, _+_, _*_, _-_, _^_, _≤_, _<_}
 use mathlib.Core.Path.{_≡_, refl, sym, ap, ap₂, _∙_}
 use mathlib.Core.Bool.{Bool, true, false, cond, not, _&&_, false≢true}
@@ -23,10 +23,12 @@ use Rattle.residue.specs.declared.Outcome.{Outcome}
 use Rattle.fields.specs.Widths.{full}
 use Rattle.sets.specs.Sets.{setOf, tally, some}
 use Rattle.sets.specs.Laws.{tally-ext, tally-bound, minus-tally, zero-tally}
-use Rattle.lists.specs.Filters.{Item, Filter, maxFilters, itemOf, filtersOf}
+use Rattle.lists.specs.Filters.{Item, Filter, maxFilters, testWords, itemOf, filtersOf}
 use Rattle.lists.specs.Ranks.{above, rankSet, rankSets}
 use Rattle.lists.specs.Accepted.{kindOf, itemWords, wellFilters}
-use Rattle.lists.specs.Laws.{item-round, getD-rankSets, rankSet-in, rankSet-clear}
+use Rattle.lists.specs.Refusals.{listed}
+use Rattle.lists.specs.declared.Listed.the-variants.{Accepted}
+use Rattle.lists.specs.Laws.{accepted-count, accepted-well, item-round, getD-rankSets, rankSet-in, rankSet-clear}
 use Rattle.states.specs.States.{Standing, out, left, State, standing, isHeld, isOut, cutStanding, beaten, closedFrom, closed, allLeft, start, Question, nothing, ask, questionOf, stepBy, sure, sureSet, outSet}
 use Rattle.states.specs.Measure.{asks}
 use Rattle.states.specs.Same.{sameState, same-state-eq, same-state-refl}
@@ -177,10 +179,40 @@ module _ (fs : List Filter) (s : State) (l : length s ≡ length fs) (few : leng
       ap (λ (w : List ℕ). w ++ (0 ∷ 0 ∷ 0 ∷ []) ++ (sureSetIn (length fs) (rankSets fs) (written s) ∷ outSetIn (length fs) (written s) ∷ [])) (question-written (length fs) s l fit) ∙
       ap₂ (λ (a b : ℕ). questionWords (questionOf s) ++ (0 ∷ 0 ∷ 0 ∷ []) ++ (a ∷ b ∷ [])) (sure-written fs s l few fit) (out-written fs s l few fit)
 
+-- The nine words of a record, whatever the words of the slot are.
+four-of : (b : Bool) (x y : List ℕ) → length x ≡ 4 → length y ≡ 4 → length (cond b x y) ≡ 4
+four-of true x y h k = h
+four-of false x y h k = k
+
+pub length-question : (m : ℕ) (w : List ℕ) → length (questionIn m w) ≡ testWords
+unfolding questionIn fourWords
+length-question zero w = refl
+length-question (suc m) w = four-of (hasTest w) (fourWords w) (questionIn m (drop filterSlot w)) refl (length-question m (drop filterSlot w))
+
+four-is : (q : List ℕ) → length q ≡ 4 → q ≡ getD q 0 0 ∷ getD q 1 0 ∷ getD q 2 0 ∷ getD q 3 0 ∷ []
+four-is [] h = absurd (omega arith)
+four-is (a ∷ []) h = absurd (omega arith)
+four-is (a ∷ b ∷ []) h = absurd (omega arith)
+four-is (a ∷ b ∷ c ∷ []) h = absurd (omega arith)
+four-is (a ∷ b ∷ c ∷ d ∷ []) h = refl
+four-is (a ∷ b ∷ c ∷ d ∷ e ∷ q) h = absurd (omega arith)
+
+pub fresh-nine : (m : ℕ) (ranks w : List ℕ) →
+    freshWords m ranks w ≡
+    getD (questionIn m w) 0 0 ∷ getD (questionIn m w) 1 0 ∷ getD (questionIn m w) 2 0 ∷ getD (questionIn m w) 3 0 ∷ 0 ∷ 0 ∷ 0 ∷ sureSetIn m ranks w ∷ outSetIn m w ∷ []
+unfolding freshWords
+fresh-nine m ranks w =
+    ap (λ (q : List ℕ). q ++ (0 ∷ 0 ∷ 0 ∷ []) ++ (sureSetIn m ranks w ∷ outSetIn m w ∷ [])) (four-is (questionIn m w) (length-question m w))
+
 pub start-written : (ws : List ℕ) → length (filtersOf ws) ≤ maxFilters → wellFilters (filtersOf ws) ≡ true → startWords (length (filtersOf ws)) (rankSets (filtersOf ws)) ws ≡ written (start (filtersOf ws))
 unfolding startWords start
 start-written ws few well =
     closed-written (filtersOf ws) (map allLeft (filtersOf ws)) (length-map (filtersOf ws) allLeft) few (fits-all (filtersOf ws) well)
+
+pub start-accepted : (ws : List ℕ) (m t : ℕ) → listed ws ≡ Accepted m t → startWords m (rankSets (filtersOf ws)) ws ≡ written (start (filtersOf ws))
+start-accepted ws m t e =
+    let c = accepted-count ws m t e in
+    ap (λ (k : ℕ). startWords k (rankSets (filtersOf ws)) ws) (sym (c .0)) ∙ start-written ws (omega arith) (accepted-well ws m t e)
 
 -- ---- sameness
 

@@ -178,12 +178,12 @@ pub fn same(a: &[u32], b: &[u32]) -> bool
     requires { ⌜ length (now a) ≡ length (now b) ⌝ }
     ensures { λ r. ⌜ r ≡ sameWords (now (a .entry)) (now (b .entry)) ⌝ }
 {
-    let mut i: usize = 0;
-    while i < a.len() {
-        if a[i] != b[i] {
+    let mut at: usize = 0;
+    while at < a.len() {
+        if a[at] != b[at] {
             return false;
         }
-        i += 1;
+        at += 1;
     }
     true
 }

@@ -12,9 +12,6 @@ use Prim.Native.Nat.{_≤_, _*_, _-_}
 use borrow.Author.Needs.{needs}
 use Rattle.slots.proofs.close_by.Statement.{statement}
 use Rattle.slots.proofs.close_by.Tie as tie
-use Rattle.slots.proofs.close_by.Reads as reads
-use Rattle.slots.proofs.close_by.Lts as lts
-use Rattle.slots.proofs.stay.Reads as stay-reads
 
 abbrev Inv-loop : tie.InvT-loop
 Inv-loop w₀ n ranks held i₀ w i = (i ≤ n) × (length w ≡ filterSlot * n) × (take (filterSlot * i) w ++ closedIn (n - i) ranks held i (drop (filterSlot * i) w) ≡ closedIn n ranks held 0 w₀)

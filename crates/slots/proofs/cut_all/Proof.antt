@@ -12,9 +12,6 @@ use Prim.Native.Nat.{_≤_, _*_, _-_}
 use borrow.Author.Needs.{needs}
 use Rattle.slots.proofs.cut_all.Statement.{statement}
 use Rattle.slots.proofs.cut_all.Tie as tie
-use Rattle.slots.proofs.cut_all.Reads as reads
-use Rattle.slots.proofs.cut_all.Lts as lts
-use Rattle.slots.proofs.filter.cut_filter.Reads as cut-filter-reads
 
 abbrev Inv-loop : tie.InvT-loop
 Inv-loop src dst₀ n field fact i₀ dst i = (i ≤ n) × (length dst ≡ filterSlot * n) × (take (filterSlot * i) dst ++ cutWords (n - i) field fact (drop (filterSlot * i) src) ≡ cutWords n field fact src)

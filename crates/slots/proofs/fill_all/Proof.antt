@@ -15,9 +15,6 @@ use Prim.Native.Nat.{ℕ, _≤_, _+_, _*_, _-_}
 use borrow.Author.Needs.{needs}
 use Rattle.slots.proofs.fill_all.Statement.{statement}
 use Rattle.slots.proofs.fill_all.Tie as tie
-use Rattle.slots.proofs.fill_all.Reads as reads
-use Rattle.slots.proofs.fill_all.Lts as lts
-use Rattle.slots.proofs.filter.fill.Reads as fill-reads
 
 abbrev Inv-loop : tie.InvT-loop
 Inv-loop list dst₀ n at₀ i₀ dst at i = (i ≤ n) × (length dst ≡ filterSlot * n) × ((t : ℕ) × (b : ℕ) × (listedFrom (maxFilters - i) i t (drop at list) ≡ Accepted n b)) × (take (filterSlot * i) dst ++ written (map allLeft (filtersFrom (maxFilters - i) (drop at list))) ≡ written (map allLeft (filtersOf list)))

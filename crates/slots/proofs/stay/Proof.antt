@@ -5,9 +5,6 @@ use mathlib.Core.Path.{refl}
 use borrow.Author.Needs.{needs}
 use Rattle.slots.proofs.stay.Statement.{statement}
 use Rattle.slots.proofs.stay.Tie as tie
-use Rattle.slots.proofs.stay.Reads as reads
-use Rattle.slots.proofs.stay.Lts as lts
-use Rattle.slots.proofs.filter.set_out.Reads as set-out-reads
 
 set-out-requires : tie.Need-set-out-requires
 set-out-requires c κs = search needs

@@ -15,10 +15,6 @@ use Prim.Native.Nat.{_≤_, _*_, _-_}
 use borrow.Author.Needs.{needs}
 use Rattle.slots.proofs.filter.cut_tests.Statement.{statement}
 use Rattle.slots.proofs.filter.cut_tests.Tie as tie
-use Rattle.slots.proofs.filter.cut_tests.Reads as reads
-use Rattle.slots.proofs.filter.cut_tests.Lts as lts
-use Rattle.slots.proofs.filter.keep.Reads as keep-reads
-use Rattle.slots.proofs.filter.left_of.Reads as left-of-reads
 
 abbrev Whole : ℕ → Fact → List ℕ → List ℕ
 Whole n k src = writtenFilter (cut n k (readItems maxTests src))

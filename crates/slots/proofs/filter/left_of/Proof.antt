@@ -8,11 +8,6 @@ use mathlib.Core.Path.{ap, sym, _∙_}
 use borrow.Author.Needs.{needs}
 use Rattle.slots.proofs.filter.left_of.Statement.{statement}
 use Rattle.slots.proofs.filter.left_of.Tie as tie
-use Rattle.slots.proofs.filter.left_of.Reads as reads
-use Rattle.slots.proofs.filter.left_of.Lts as lts
-use Rattle.fields.proofs.full_of.Reads as full-of-reads
-use Rattle.residue.proofs.residue_of.Reads as residue-of-reads
-use Rattle.slots.proofs.filter.test_of.Reads as test-of-reads
 
 mul-test-of : tie.Need-mul-test-of
 mul-test-of c = search needs

@@ -12,10 +12,6 @@ use Prim.Native.Nat.{_≤_, _+_, _*_, _-_}
 use borrow.Author.Needs.{needs}
 use Rattle.slots.proofs.filter.put_tests.Statement.{statement}
 use Rattle.slots.proofs.filter.put_tests.Tie as tie
-use Rattle.slots.proofs.filter.put_tests.Reads as reads
-use Rattle.slots.proofs.filter.put_tests.Lts as lts
-use Rattle.slots.proofs.filter.put_test.Reads as put-test-reads
-use Rattle.slots.proofs.filter.test_of.Reads as test-of-reads
 
 abbrev Inv-loop : tie.InvT-loop
 Inv-loop list at count dst₀ test₀ dst test = (test ≤ count) × (length dst ≡ filterSlot) × (take (testWords * test) dst ++ itemsWords (itemsOf (count - test) (drop (at + testWords * test) list)) ≡ itemsWords (itemsOf count (drop at list)))
