@@ -1,6 +1,6 @@
 -- Cutting one filter's words: stores one after the other, zeros behind, and one more test behind those kept.
 -- Assumes nothing.
-use Prim.Native.Nat.{ℕ, zero, suc, _+_, _*_, _-_, _≤_, _<_}
+use Prim.Native.Nat.{ℕ, suc, _+_, _*_, _-_, _≤_, _<_}
 use mathlib.Core.Path.{_≡_, refl, sym, ap, ap₂, _∙_}
 use mathlib.Core.Bool.{Bool, true, false, cond}
 use mathlib.Core.List.{List, [], _∷_, _++_, append-assoc, append-nil}
@@ -21,7 +21,7 @@ use Rattle.lists.specs.Filters.{Item, testWords, maxTests, testOf, itemOf}
 use Rattle.lists.specs.Accepted.{itemWords}
 use Rattle.states.specs.States.{Standing, out, left, keep, join, cut, cutStanding}
 use Rattle.slots.specs.Words.{filterSlot, outMark, itemsWords, outWords, writtenFilter, readItems, readFilter}
-use Rattle.slots.specs.Steps.{over, cleared, item, leftOf, keptWords, keptAt, finished, pastEnd, Kept}
+use Rattle.slots.specs.Steps.{over, cleared, item, leftOf, keptWords, keptAt, finished, Kept}
 
 pub put-four : (d : List ℕ) (at k f m v : ℕ) → at + testWords ≤ length d → set (set (set (set d at k) (at + 1) f) (at + 2) m) (at + 3) v ≡ over at (k ∷ f ∷ m ∷ v ∷ []) d
 put-four d at k f m v h = rw (add-one at, add-two at, add-three at) (sets-eq (k ∷ f ∷ m ∷ v ∷ []) d at h)

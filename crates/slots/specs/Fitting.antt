@@ -1,6 +1,6 @@
 -- States that fit a slot: no filter has more remaining tests than there is room for. The start of an accepted list fits, and each step keeps it so.
 --   fitsStanding x, fitsSlot s   at most 8 tests remain, of one filter and of each
-use Prim.Native.Nat.{ℕ, zero, suc, _+_, _≤_}
+use Prim.Native.Nat.{ℕ, suc, _+_, _≤_}
 use mathlib.Core.Path.{_≡_, refl}
 use mathlib.Core.Bool.{Bool, true, false, cond, _&&_}
 use mathlib.Core.List.{List, [], _∷_, map}
@@ -19,7 +19,7 @@ use Rattle.fields.specs.Widths.{full}
 use Rattle.lists.specs.Filters.{Item, Filter, maxTests}
 use Rattle.lists.specs.Accepted.{wellFilter, wellFilters}
 use Rattle.lists.specs.Laws.{well-few}
-use Rattle.states.specs.States.{Standing, out, left, State, keep, join, cut, cutStanding, beaten, closedFrom, closed, allLeft, start, stepBy, remainingIn, Question, nothing, ask, questionOf, stepAt, step}
+use Rattle.states.specs.States.{Standing, out, left, State, keep, join, cut, cutStanding, beaten, closedFrom, closed, allLeft, start, stepBy, remainingIn, step}
 use Rattle.states.specs.Laws.{step-keeps}
 
 unfoldable pub fitsStanding : Standing → Bool

@@ -7,11 +7,11 @@ use Prim.Native.Nat.{ℕ, zero, suc, _+_, _*_, _-_, _^_, _≤_, _<_}
 use mathlib.Core.Path.{_≡_, refl, sym, ap, ap₂, _∙_}
 use mathlib.Core.Bool.{Bool, true, false, cond, not, _&&_, false≢true}
 use mathlib.Core.List.{List, [], _∷_, _++_, map}
-use native.Mathlib.Nat.{not-suc-le-zero, le-of-suc-le-suc, le-refl}
+use native.Mathlib.Nat.{not-suc-le-zero, le-of-suc-le-suc}
 use native.Mathlib.Omega.{arith}
 use lib.Bits.{bitAnd}
 use lib.Dec.{eqb}
-use lib.ListN.{length, getD, take, drop, length-map, List·getD-append}
+use lib.ListN.{length, getD, drop, length-map, List·getD-append}
 use lib.Seq.{getD-append-add}
 use borrow.Author.Tests.{eqb-true, eq-eqb}
 use Rattle.residue.specs.Bits.{and-not}
@@ -24,8 +24,8 @@ use Rattle.fields.specs.Widths.{full}
 use Rattle.sets.specs.Sets.{setOf, tally, some}
 use Rattle.sets.specs.Laws.{tally-ext, tally-bound, minus-tally, zero-tally}
 use Rattle.lists.specs.Filters.{Item, Filter, maxFilters, testWords, itemOf, filtersOf}
-use Rattle.lists.specs.Ranks.{above, rankSet, rankSets}
-use Rattle.lists.specs.Accepted.{kindOf, itemWords, wellFilters}
+use Rattle.lists.specs.Ranks.{above, rankSets}
+use Rattle.lists.specs.Accepted.{itemWords, wellFilters}
 use Rattle.lists.specs.Refusals.{listed}
 use Rattle.lists.specs.declared.Listed.the-variants.{Accepted}
 use Rattle.lists.specs.Laws.{accepted-count, accepted-well, item-round, getD-rankSets, rankSet-in, rankSet-clear}

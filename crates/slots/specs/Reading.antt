@@ -1,5 +1,5 @@
 -- Words written and read back: a state that fits its slot is read back as it was, so equal words are equal states.
-use Prim.Native.Nat.{ℕ, zero, suc, _+_, _*_, _-_, _≤_, _<_}
+use Prim.Native.Nat.{ℕ, zero, suc, _+_, _*_, _-_, _≤_}
 use mathlib.Core.Path.{_≡_, refl, sym, ap, ap₂, _∙_}
 use mathlib.Core.Bool.{Bool, true, false, cond}
 use mathlib.Core.List.{List, [], _∷_, _++_}
@@ -11,8 +11,8 @@ use lib.Seq.{take-at, drop-at}
 use Rattle.residue.specs.Choice.{first, second}
 use Rattle.residue.specs.declared.Test.{Test}
 use Rattle.residue.specs.declared.Test.the-variants.{Equal, Differs, AtMost, AtLeast}
-use Rattle.lists.specs.Filters.{Item, maxTests, testWords, testOf, itemOf}
-use Rattle.lists.specs.Accepted.{kindOf, maskOf, valueOf, itemWords}
+use Rattle.lists.specs.Filters.{Item, maxTests, testWords, itemOf}
+use Rattle.lists.specs.Accepted.{kindOf, itemWords}
 use Rattle.lists.specs.Laws.{item-round}
 use Rattle.states.specs.States.{Standing, out, left, State, isHeld, isOut, remainingIn}
 use Rattle.slots.specs.Words.{filterSlot, outMark, itemsWords, outWords, writtenFilter, written, readItems, readFilter, readState}

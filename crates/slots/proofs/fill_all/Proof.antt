@@ -7,7 +7,7 @@ use Rattle.states.specs.States.{allLeft}
 use Rattle.lists.specs.declared.Listed.the-variants.{Accepted}
 use Rattle.lists.specs.Refusals.{listedFrom, listed}
 use Rattle.lists.specs.Filters.{maxFilters, countWord, filtersFrom, filtersOf}
-use lib.ListN.{length, getD, take, drop}
+use lib.ListN.{length, take, drop}
 use native.Mathlib.Omega.{arith}
 use mathlib.Core.List.{_++_, map}
 use mathlib.Core.Path.{_≡_, refl, sym, ap, _∙_}

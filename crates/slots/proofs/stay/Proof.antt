@@ -1,7 +1,6 @@
 -- `slots::stay` meets its contract. It is made out where it does not stay.
 -- Assumes nothing.
 use borrow.Author.Tests.{not-true, not-false}
-use mathlib.Core.Path.{refl}
 use borrow.Author.Needs.{needs}
 use Rattle.slots.proofs.stay.Statement.{statement}
 use Rattle.slots.proofs.stay.Tie as tie

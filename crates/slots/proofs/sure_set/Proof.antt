@@ -6,7 +6,7 @@ use Rattle.slots.specs.Slots.{sureSetIn}
 use Rattle.sets.specs.Sets.{setOf, tally}
 use native.Mathlib.Omega.{arith}
 use mathlib.Core.Path.{_≡_, refl, ap, _∙_}
-use Prim.Native.Nat.{_≤_, _-_, _^_, _<_}
+use Prim.Native.Nat.{_≤_, _-_}
 use borrow.Author.Needs.{needs}
 use Rattle.slots.proofs.sure_set.Statement.{statement}
 use Rattle.slots.proofs.sure_set.Tie as tie

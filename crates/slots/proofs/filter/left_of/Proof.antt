@@ -1,10 +1,8 @@
 -- `slots::filter::left_of` meets its contract. The words at the place are the test's; on another field it is left as it is.
 -- Assumes nothing.
 use Rattle.slots.proofs.Cutting.{item-at, left-same, left-other}
-use Rattle.slots.specs.Steps.{leftOf}
 use Rattle.residue.specs.declared.Residue.the-variants.{Left}
-use Rattle.residue.specs.Residues.{residueBy}
-use mathlib.Core.Path.{ap, sym, _∙_}
+use mathlib.Core.Path.{ap}
 use borrow.Author.Needs.{needs}
 use Rattle.slots.proofs.filter.left_of.Statement.{statement}
 use Rattle.slots.proofs.filter.left_of.Tie as tie

@@ -2,7 +2,6 @@
 -- Assumes nothing.
 use Rattle.lists.specs.Filters.{testOf}
 use borrow.Author.Tests.{ne-eqb}
-use borrow.Author.Needs.{needs}
 use Rattle.slots.proofs.filter.test_of.Statement.{statement}
 use Rattle.slots.proofs.filter.test_of.Tie as tie
 
