@@ -3,11 +3,12 @@
 use Prim.Native.Nat.{ℕ, _+_, _-_, _≤_, _<_}
 use native.Mathlib.Omega.{arith}
 use mathlib.Core.Path.{_≡_, refl}
-use mathlib.Core.Bool.{Bool, true, false, _&&_, and-false, false≢true}
+use mathlib.Core.Bool.{Bool, true, false, _&&_, and-false}
 use mathlib.Core.List.{List}
 use borrow.Author.Tests.{lt-leb, le-leb, ne-eqb, leb-true}
 use lib.Dec.{leb, eqb}
 use lib.ListN.{length, take, drop}
+use Rattle.fields.specs.Both.{both-left, both-right}
 use Rattle.fields.specs.Fields.{two, ethernet, internet, version, headerLength, totalLength, transport}
 
 module _ (f : List ℕ) where
@@ -38,14 +39,6 @@ pub record Internet (f : List ℕ) : Type 0 where
   pub header : headerLength f ≤ totalLength f
   pub inside : 14 + totalLength f ≤ length f
 
-left : (a b : Bool) → (a && b) ≡ true → a ≡ true
-left true b h = refl
-left false b h = h
-
-right : (a b : Bool) → (a && b) ≡ true → b ≡ true
-right true b h = h
-right false b h = absurd (false≢true h)
-
 pub internet-lengths : (f : List ℕ) → internet f ≡ true → Internet f
 unfolding internet
 internet-lengths f h =
@@ -55,14 +48,14 @@ internet-lengths f h =
     let c4 = leb 20 (headerLength f) in
     let c5 = leb (headerLength f) (totalLength f) in
     let c6 = leb (14 + totalLength f) (length f) in
-    let h5 = left (c1 && c2 && c3 && c4 && c5) c6 h in
-    let h4 = left (c1 && c2 && c3 && c4) c5 h5 in
-    let h2 = left (c1 && c2) c3 (left (c1 && c2 && c3) c4 h4) in
+    let h5 = both-left (c1 && c2 && c3 && c4 && c5) c6 h in
+    let h4 = both-left (c1 && c2 && c3 && c4) c5 h5 in
+    let h2 = both-left (c1 && c2) c3 (both-left (c1 && c2 && c3) c4 h4) in
     record {
-      whole = leb-true _ _ (right c1 c2 h2);
-      least = leb-true _ _ (right (c1 && c2 && c3) c4 h4);
-      header = leb-true _ _ (right (c1 && c2 && c3 && c4) c5 h5);
-      inside = leb-true _ _ (right (c1 && c2 && c3 && c4 && c5) c6 h)
+      whole = leb-true _ _ (both-right c1 c2 h2);
+      least = leb-true _ _ (both-right (c1 && c2 && c3) c4 h4);
+      header = leb-true _ _ (both-right (c1 && c2 && c3 && c4) c5 h5);
+      inside = leb-true _ _ (both-right (c1 && c2 && c3 && c4 && c5) c6 h)
     }
 
 -- The part from 14 + h to 14 + t, as the code lends it.

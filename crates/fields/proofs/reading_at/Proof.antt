@@ -1,11 +1,22 @@
+-- `fields::reading_at` meets its contract: the tests are the definition's, bit by bit.
+-- Assumes nothing.
 use borrow.Author.Needs.{needs}
+use native.Mathlib.Omega.{arith}
+use Prim.Native.Nat.{_≤_, _<_}
+use borrow.Author.Tests.{le-ltb, lt-ltb, eq-eqb, ne-eqb}
+use Rattle.sets.specs.Sets.{member}
+use Rattle.fields.specs.Header.{readingAt}
 use Rattle.fields.proofs.reading_at.Statement.{statement}
 use Rattle.fields.proofs.reading_at.Tie as tie
 use Rattle.fields.proofs.reading_at.Reads as reads
 use Rattle.fields.proofs.reading_at.Lts as lts
 
 returns : tie.Need-returns
-returns c = search needs
+unfolding readingAt
+returns c =
+    let n = c .before .args .number in
+    let above : 14 ≤ n = omega arith in
+    simp (le-ltb n 14 above)
 
 shr-if2 : tie.Need-shr-if2
 shr-if2 c = search needs
@@ -17,10 +28,18 @@ element-copy-out-t11 : tie.Need-element-copy-out-t11
 element-copy-out-t11 c = search needs
 
 returns-2 : tie.Need-returns-2
-returns-2 c = search needs
+unfolding readingAt member
+returns-2 c =
+    let n = c .before .before .before .args .number in
+    let within : n < 14 = omega arith in
+    simp (lt-ltb n 14 within, eq-eqb _ 1 (c .before .if2 .taken))
 
 returns-3 : tie.Need-returns-3
-returns-3 c = search needs
+unfolding readingAt member
+returns-3 c =
+    let n = c .before .before .args .number in
+    let within : n < 14 = omega arith in
+    simp (lt-ltb n 14 within, ne-eqb _ 1 (c .if2 .left))
 
 pub reading-at-spec : {M : Type 1} → statement M
 reading-at-spec =
