@@ -5,8 +5,8 @@ ghost use lib.ListN.{length};
 ghost use lib.Seq.{sets};
 ghost use Rattle.fields.specs.Widths.{full};
 ghost use Rattle.fields.specs.Fields.{two, four, internet, field};
-ghost use Rattle.fields.specs.Header.{Header, Filled, internetWords, readingAt};
-
+ghost use Rattle.fields.specs.Header.{Header, readingAt};
+ghost use Rattle.fields.specs.Parts.{Filled, internetWords};
 use residue::Reading;
 
 // The width of each field in bits, by its number.

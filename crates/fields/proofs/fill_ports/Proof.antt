@@ -4,9 +4,6 @@ use borrow.Author.Needs.{needs}
 use Rattle.fields.proofs.Fills.{ports-short, ports-whole}
 use Rattle.fields.proofs.fill_ports.Statement.{statement}
 use Rattle.fields.proofs.fill_ports.Tie as tie
-use Rattle.fields.proofs.fill_ports.Reads as reads
-use Rattle.fields.proofs.fill_ports.Lts as lts
-use Rattle.fields.proofs.two_at.Reads as two-at-reads
 
 returns : tie.Need-returns
 returns c = ports-short _ _ (c .if1 .taken)

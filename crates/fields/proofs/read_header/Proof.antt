@@ -4,21 +4,14 @@
 use borrow.Author.Needs.{needs}
 use native.Mathlib.Omega.{arith}
 use mathlib.Core.Path.{_≡_, sym, _∙_}
-use mathlib.Core.Bool.{true, false}
+use mathlib.Core.Bool.{true}
 use Prim.Native.Nat.{ℕ, _<_}
 use mathlib.Core.List.{List}
 use Rattle.fields.specs.Fields.{two, headerLength, totalLength, protocol, transport, ethernet, internet}
-use Rattle.fields.specs.Bounds.{two-fits}
 use Rattle.fields.proofs.Fills.{header-none, header-ethernet, header-internet}
-use Rattle.fields.proofs.Presence.{Internet, ethernet-short, internet-short, ethernet-length, internet-other, ethernet-whole, internet-lengths, part-from-to}
+use Rattle.fields.specs.LawsPresence.{Internet, ethernet-short, internet-short, ethernet-length, internet-other, ethernet-whole, internet-lengths, part-from-to}
 use Rattle.fields.proofs.read_header.Statement.{statement}
 use Rattle.fields.proofs.read_header.Tie as tie
-use Rattle.fields.proofs.read_header.Reads as reads
-use Rattle.fields.proofs.read_header.Lts as lts
-use Rattle.fields.proofs.fill_internet.Reads as fill-internet-reads
-use Rattle.fields.proofs.fill_transport.Reads as fill-transport-reads
-use Rattle.fields.proofs.is_internet.Reads as is-internet-reads
-use Rattle.fields.proofs.two_at.Reads as two-at-reads
 
 abbrev frameAt : (c : tie.Then3) → List ℕ
 frameAt c = c .before .before .before .before .before .before .args .frame .now
@@ -113,11 +106,12 @@ returns-3 c =
     let then = lent .before .before .before .before in
     let kind = then .before .before .before .two-at .ensures in
     header-internet _ _ _ (named (then .before .before)) (is-so then)
-    (rw
-    (← kind,
-    ← lent .before .before .fill-internet .ensures,
-    ← part-from-to (frameAt then) (headerLength (frameAt then)) (totalLength (frameAt then)),
-    ← lent .two-at2 .ensures)
+    (rw (
+      ← kind,
+      ← lent .before .before .fill-internet .ensures,
+      ← part-from-to (frameAt then) (headerLength (frameAt then)) (totalLength (frameAt then)),
+      ← lent .two-at2 .ensures,
+    )
     (c .fill-transport .ensures))
 
 returns-4 : tie.Need-returns-4
