@@ -146,13 +146,16 @@ pub fn read_header(frame: &[u8], port: u8, values: &mut [u32; 14]) -> u32
     if kind < 1536 {
         return 8192;
     }
-    values[0] = kind;
+    // All that is read twice is read before the first store behind it, so that the compiler need not load it again.
     if is_internet(frame) {
-        fill_internet(frame, values);
         let start = 14 + 4 * (frame[14] as usize % 16);
         let end = 14 + two_at(frame, 16) as usize;
-        return 8447 + fill_transport(&frame[start..end], frame[23], values);
+        let protocol = frame[23];
+        values[0] = kind;
+        fill_internet(frame, values);
+        return 8447 + fill_transport(&frame[start..end], protocol, values);
     }
+    values[0] = kind;
     8193
 }
 
