@@ -28,7 +28,9 @@ fn two_at(s: &[u8], i: usize) -> u32
     requires { ⌜ i + 1 < length (now s) ⌝ }
     ensures { λ r. ⌜ r ≡ two (now (s .entry)) i ⌝ }
 {
-    s[i] as u32 * 256 + s[i + 1] as u32
+    let high = s[i] as u32;
+    let low = s[i + 1] as u32;
+    high * 256 + low
 }
 
 // The number in four bytes from i on.
