@@ -5,9 +5,6 @@ use lib.ListN.{length-set}
 use borrow.Author.Needs.{needs}
 use Rattle.fields_cases.proofs.head.Statement.{statement}
 use Rattle.fields_cases.proofs.head.Tie as tie
-use Rattle.fields_cases.proofs.head.Reads as reads
-use Rattle.fields_cases.proofs.head.Lts as lts
-use Rattle.fields_cases.proofs.number_bytes.Reads as number-bytes-reads
 
 number-bytes-requires : tie.Need-number-bytes-requires
 number-bytes-requires c κs = search needs

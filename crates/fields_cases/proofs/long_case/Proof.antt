@@ -5,10 +5,6 @@ use lib.ListN.{length-take}
 use borrow.Author.Needs.{needs}
 use Rattle.fields_cases.proofs.long_case.Statement.{statement}
 use Rattle.fields_cases.proofs.long_case.Tie as tie
-use Rattle.fields_cases.proofs.long_case.Reads as reads
-use Rattle.fields_cases.proofs.long_case.Lts as lts
-use Rattle.fields_cases.proofs.head.Reads as head-reads
-use Rattle.fields_cases.proofs.show.Reads as show-reads
 
 slice-aggregate-head : tie.Need-slice-aggregate-head
 slice-aggregate-head c = search needs

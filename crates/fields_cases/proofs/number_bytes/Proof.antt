@@ -6,8 +6,6 @@ use lib.ListN.{length}
 use borrow.Author.Needs.{needs}
 use Rattle.fields_cases.proofs.number_bytes.Statement.{statement}
 use Rattle.fields_cases.proofs.number_bytes.Tie as tie
-use Rattle.fields_cases.proofs.number_bytes.Reads as reads
-use Rattle.fields_cases.proofs.number_bytes.Lts as lts
 
 abbrev Inv-loop : tie.InvT-loop
 Inv-loop f₀ i₀ f i = length f ≡ length f₀

@@ -6,13 +6,6 @@ use lib.ListN.{length}
 use borrow.Author.Needs.{needs}
 use Rattle.fields_cases.proofs.show.Statement.{statement}
 use Rattle.fields_cases.proofs.show.Tie as tie
-use Rattle.fields_cases.proofs.show.Reads as reads
-use Rattle.fields_cases.proofs.show.Lts as lts
-use Rattle.fields.proofs.read_header.Reads as read-header-reads
-use Rattle.fields.proofs.reading_at.Reads as reading-at-reads
-use Rattle.fields_cases.proofs.print_number.Reads as print-number-reads
-use Rattle.fields_cases.proofs.print_reading.Reads as print-reading-reads
-use Rattle.io.proofs.write_all.Reads as write-all-reads
 
 abbrev Inv-loop : tie.InvT-loop
 Inv-loop label frame values present i₀ t7 i = (i ≤ 15) × (length t7 ≡ 1)

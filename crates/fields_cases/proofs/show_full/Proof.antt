@@ -6,11 +6,6 @@ use lib.ListN.{length}
 use borrow.Author.Needs.{needs}
 use Rattle.fields_cases.proofs.show_full.Statement.{statement}
 use Rattle.fields_cases.proofs.show_full.Tie as tie
-use Rattle.fields_cases.proofs.show_full.Reads as reads
-use Rattle.fields_cases.proofs.show_full.Lts as lts
-use Rattle.fields.proofs.full_of.Reads as full-of-reads
-use Rattle.fields_cases.proofs.print_number.Reads as print-number-reads
-use Rattle.io.proofs.write_all.Reads as write-all-reads
 
 abbrev Inv-loop : tie.InvT-loop
 Inv-loop i₀ t3 i = (i ≤ 15) × (length t3 ≡ 1)

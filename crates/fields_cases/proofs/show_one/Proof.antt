@@ -5,11 +5,6 @@ use lib.ListN.{length-take}
 use borrow.Author.Needs.{needs}
 use Rattle.fields_cases.proofs.show_one.Statement.{statement}
 use Rattle.fields_cases.proofs.show_one.Tie as tie
-use Rattle.fields_cases.proofs.show_one.Reads as reads
-use Rattle.fields_cases.proofs.show_one.Lts as lts
-use Rattle.fields.proofs.read_field.Reads as read-field-reads
-use Rattle.fields_cases.proofs.head.Reads as head-reads
-use Rattle.fields_cases.proofs.print_reading.Reads as print-reading-reads
 
 slice-aggregate-head : tie.Need-slice-aggregate-head
 slice-aggregate-head c = search needs
