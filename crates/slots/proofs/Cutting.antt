@@ -164,32 +164,31 @@ rest-more n k src j h z =
 -- ---- a turn of the loop over the tests
 
 module _
-  (n : ℕ) (k : Fact) (src d d' : List ℕ) (j e e' : ℕ) (r : Residue) (W : List ℕ)
-  (more : j < maxTests) (test : getD src (testWords * j) 0 ≡ 0 → ⊥)
-  (one : length d ≡ filterSlot) (fits : e ≤ testWords * j)
-  (is : r ≡ leftOf n k (itemOf (drop (testWords * j) src)))
-  (kept : Kept e (getD src (testWords * j + 1) 0) r d d' e')
-  (whole : finished e d (rest n k src j) ≡ W)
+    (n : ℕ) (k : Fact) (src d d' : List ℕ) (j e e' : ℕ) (r : Residue) (W : List ℕ)
+    (more : j < maxTests) (test : getD src (testWords * j) 0 ≡ 0 → ⊥)
+    (one : length d ≡ filterSlot) (fits : e ≤ testWords * j)
+    (is : r ≡ leftOf n k (itemOf (drop (testWords * j) src)))
+    (kept : Kept e (getD src (testWords * j + 1) 0) r d d' e')
+    (whole : finished e d (rest n k src j) ≡ W)
   where
+    joined : finished e d (join (getD src (testWords * j + 1) 0) r (rest n k src (j + 1))) ≡ W
+    joined = ap (λ (x : Standing). finished e d x) (ap (λ (q : Residue). join (getD src (testWords * j + 1) 0) q (rest n k src (j + 1))) is ∙ sym (rest-more n k src j more test)) ∙ whole
 
-  joined : finished e d (join (getD src (testWords * j + 1) 0) r (rest n k src (j + 1))) ≡ W
-  joined = ap (λ (x : Standing). finished e d x) (ap (λ (q : Residue). join (getD src (testWords * j + 1) 0) q (rest n k src (j + 1))) is ∙ sym (rest-more n k src j more test)) ∙ whole
+    pub turn-out : filterSlot < e' → cleared e' d' ≡ W
+    turn-out h =
+        ap₂ cleared (kept .behind) (kept .words) ∙
+        kept-out e (getD src (testWords * j + 1) 0) d r (rest n k src (j + 1)) (omega arith) (rw (kept .behind) at h) ∙ joined
 
-  pub turn-out : filterSlot < e' → cleared e' d' ≡ W
-  turn-out h =
-      ap₂ cleared (kept .behind) (kept .words) ∙
-      kept-out e (getD src (testWords * j + 1) 0) d r (rest n k src (j + 1)) (omega arith) (rw (kept .behind) at h) ∙ joined
+    pub turn-long : length d' ≡ filterSlot
+    turn-long = ap length (kept .words) ∙ kept-long e (getD src (testWords * j + 1) 0) d r one (omega arith)
 
-  pub turn-long : length d' ≡ filterSlot
-  turn-long = ap length (kept .words) ∙ kept-long e (getD src (testWords * j + 1) 0) d r one (omega arith)
+    pub turn-le : e' ≤ filterSlot → e' ≤ testWords * (j + 1)
+    turn-le h = omega (arith, kept .behind, kept-le e r (rw (kept .behind) at h))
 
-  pub turn-le : e' ≤ filterSlot → e' ≤ testWords * (j + 1)
-  turn-le h = omega (arith, kept .behind, kept-le e r (rw (kept .behind) at h))
-
-  pub turn-on : e' ≤ filterSlot → finished e' d' (rest n k src (j + 1)) ≡ W
-  turn-on h =
-      ap₂ (λ (a : ℕ) (b : List ℕ). finished a b (rest n k src (j + 1))) (kept .behind) (kept .words) ∙
-      kept-step e (getD src (testWords * j + 1) 0) d r (rest n k src (j + 1)) (omega arith) (rw (kept .behind) at h) ∙ joined
+    pub turn-on : e' ≤ filterSlot → finished e' d' (rest n k src (j + 1)) ≡ W
+    turn-on h =
+        ap₂ (λ (a : ℕ) (b : List ℕ). finished a b (rest n k src (j + 1))) (kept .behind) (kept .words) ∙
+        kept-step e (getD src (testWords * j + 1) 0) d r (rest n k src (j + 1)) (omega arith) (rw (kept .behind) at h) ∙ joined
 
 -- ---- the whole filter
 

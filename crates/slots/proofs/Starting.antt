@@ -75,7 +75,7 @@ accepted-on (suc m) i t a b (w ∷ ws) e h =
     record {
       sound = accepted-head m i t a b (w ∷ ws) l e;
       rest = ap (λ (x : ℕ). listedFrom x (i + 1) (t + countWord (w ∷ ws)) (drop (filterWords (w ∷ ws)) (w ∷ ws))) (sym z) ∙ accepted-rest m i t a b (w ∷ ws) l e;
-      filters = filters-step m (w ∷ ws) l ∙ ap (λ (x : ℕ). filterOf (w ∷ ws) ∷ filtersFrom x (drop (filterWords (w ∷ ws)) (w ∷ ws))) z
+      filters = filters-step m (w ∷ ws) l ∙ ap (λ (x : ℕ). filterOf (w ∷ ws) ∷ filtersFrom x (drop (filterWords (w ∷ ws)) (w ∷ ws))) z;
     }
 
 accepted-le : (m i t a b : ℕ) (ws : List ℕ) → listedFrom m i t ws ≡ Accepted a b → i ≤ a

@@ -8,7 +8,6 @@ ghost use Rattle.lists.specs.Accepted.{itemWords};
 ghost use Rattle.states.specs.States.{cutStanding, left};
 ghost use Rattle.slots.specs.Words.{filterSlot, itemsWords, outWords, writtenFilter, readFilter};
 ghost use Rattle.slots.specs.Steps.{over, cleared, item, leftOf, Room, Kept, Two, Cut, Tests};
-
 use residue::Fact;
 use residue::Residue;
 use residue::Test;

@@ -10,7 +10,6 @@ ghost use Rattle.states.specs.States.{allLeft};
 ghost use Rattle.slots.specs.Words.{filterSlot, outWords, written, writtenFilter};
 ghost use Rattle.slots.specs.Slots.{heldSet, outSetIn, sureSetIn, closedIn, closedWords, questionIn, cutWords, stepWords, startWords, freshWords, sameWords};
 ghost use Rattle.slots.specs.Steps.{freshLength, markedSet, State, Ranked, Both, Stepped, Recorded, Starts};
-
 use residue::Fact;
 use residue::Outcome;
 

@@ -69,10 +69,11 @@ loop-again c =
     let a = t .before .before .before .before .args in
     let h = t .loop-test .taken in
     let r = room (l .i) (a .n) (l .w) h (l .inv .1) in
-    let m = s .stay .kept .0 ∙ part-long (filterSlot * l .i) (l .w) r in
-    (omega arith,
-    lent-long (l .i) (l .w) (s .stay .last .0) r m ∙ l .inv .1,
-    close-turn (a .n) (l .i) (a .ranks .now) (a .held) (l .w) (s .stay .last .0) (closedIn (a .n) (a .ranks .now) (a .held) 0 (a .w .now)) h (l .inv .1) m (s .stay .ensures) (l .inv .2))
+    let m = s .stay .kept .0 ∙ part-long (filterSlot * l .i) (l .w) r in (
+      omega arith,
+      lent-long (l .i) (l .w) (s .stay .last .0) r m ∙ l .inv .1,
+      close-turn (a .n) (l .i) (a .ranks .now) (a .held) (l .w) (s .stay .last .0) (closedIn (a .n) (a .ranks .now) (a .held) 0 (a .w .now)) h (l .inv .1) m (s .stay .ensures) (l .inv .2),
+    )
 
 same-length : tie.Need-same-length Inv-loop μ-loop
 same-length c = c .before .loop .inv .1 ∙ sym (c .before .before .before .before .pre .whole)

@@ -76,10 +76,11 @@ loop-again c =
     let a = t .before .before .before .before .args in
     let h = t .loop-test .taken in
     let r = room (l .i) (a .n) (l .dst) h (l .inv .1) in
-    let m = s .cut-filter .kept .1 .0 ∙ part-long (filterSlot * l .i) (l .dst) r in
-    (omega arith,
-    lent-long (l .i) (l .dst) (s .cut-filter .last .1 .0) r m ∙ l .inv .1,
-    cut-turn (a .n) (l .i) (a .field) (a .fact) (a .src .now) (l .dst) (s .cut-filter .last .1 .0) (cutWords (a .n) (a .field) (a .fact) (a .src .now)) h (l .inv .1) m (s .cut-filter .ensures) (l .inv .2))
+    let m = s .cut-filter .kept .1 .0 ∙ part-long (filterSlot * l .i) (l .dst) r in (
+      omega arith,
+      lent-long (l .i) (l .dst) (s .cut-filter .last .1 .0) r m ∙ l .inv .1,
+      cut-turn (a .n) (l .i) (a .field) (a .fact) (a .src .now) (l .dst) (s .cut-filter .last .1 .0) (cutWords (a .n) (a .field) (a .fact) (a .src .now)) h (l .inv .1) m (s .cut-filter .ensures) (l .inv .2),
+    )
 
 same-length : tie.Need-same-length Inv-loop μ-loop
 same-length c = c .before .loop .inv .1 ∙ sym (c .before .before .before .before .pre .target)

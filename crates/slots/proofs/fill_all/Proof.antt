@@ -94,11 +94,12 @@ loop-again c =
     let q = l .inv .2 in
     let r = room (l .i) (a .n) (l .dst) h (l .inv .1) in
     let m = f .fill .kept .1 .1 .1 .0 ∙ part-long (filterSlot * l .i) (l .dst) r in
-    let p = f .fill .last .1 .1 .1 .0 in
-    (omega arith,
-    lent-long (l .i) (l .dst) p r m ∙ l .inv .1,
-    (q .0 + countWord (drop (l .at) (a .list .now)), q .1, listed-next (a .n) (l .i) (q .0) (q .1) (l .at) (a .list .now) (q .2) h),
-    fill-turn (a .n) (l .i) (q .0) (q .1) (l .at) (a .list .now) (q .2) h (filterSlot * l .i + filterSlot - filterSlot * l .i) (l .dst) p (written (map allLeft (filtersOf (a .list .now)))) (l .inv .1) m (f .fill .ensures) (l .inv .3))
+    let p = f .fill .last .1 .1 .1 .0 in (
+      omega arith,
+      lent-long (l .i) (l .dst) p r m ∙ l .inv .1,
+      (q .0 + countWord (drop (l .at) (a .list .now)), q .1, listed-next (a .n) (l .i) (q .0) (q .1) (l .at) (a .list .now) (q .2) h),
+      fill-turn (a .n) (l .i) (q .0) (q .1) (l .at) (a .list .now) (q .2) h (filterSlot * l .i + filterSlot - filterSlot * l .i) (l .dst) p (written (map allLeft (filtersOf (a .list .now)))) (l .inv .1) m (f .fill .ensures) (l .inv .3),
+    )
 
 same-length : tie.Need-same-length Inv-loop μ-loop
 same-length c = c .before .loop .inv .1 ∙ sym (c .before .before .before .before .pre .target)

@@ -89,11 +89,12 @@ loop-again c =
     let b = o .before .before .before in
     let l = b .before .before .before .loop in
     let a = b .before .before .before .before .before .before .args in
-    let n = b .before .before .loop-test .taken in
-    (turn-long (a .field) (a .fact) (a .src .now) (l .dst) (k .keep .last .0) (l .test) (l .end) (k .keep .result) (o .left-of .result) (Whole (a .field) (a .fact) (a .src .now)) n (b .if1 .left) (l .inv .0) (l .inv .2) (o .left-of .ensures) (k .keep .ensures) (l .inv .3),
-    omega arith,
-    turn-le (a .field) (a .fact) (a .src .now) (l .dst) (k .keep .last .0) (l .test) (l .end) (k .keep .result) (o .left-of .result) (Whole (a .field) (a .fact) (a .src .now)) n (b .if1 .left) (l .inv .0) (l .inv .2) (o .left-of .ensures) (k .keep .ensures) (l .inv .3) (c .if2 .left),
-    turn-on (a .field) (a .fact) (a .src .now) (l .dst) (k .keep .last .0) (l .test) (l .end) (k .keep .result) (o .left-of .result) (Whole (a .field) (a .fact) (a .src .now)) n (b .if1 .left) (l .inv .0) (l .inv .2) (o .left-of .ensures) (k .keep .ensures) (l .inv .3) (c .if2 .left))
+    let n = b .before .before .loop-test .taken in (
+      turn-long (a .field) (a .fact) (a .src .now) (l .dst) (k .keep .last .0) (l .test) (l .end) (k .keep .result) (o .left-of .result) (Whole (a .field) (a .fact) (a .src .now)) n (b .if1 .left) (l .inv .0) (l .inv .2) (o .left-of .ensures) (k .keep .ensures) (l .inv .3),
+      omega arith,
+      turn-le (a .field) (a .fact) (a .src .now) (l .dst) (k .keep .last .0) (l .test) (l .end) (k .keep .result) (o .left-of .result) (Whole (a .field) (a .fact) (a .src .now)) n (b .if1 .left) (l .inv .0) (l .inv .2) (o .left-of .ensures) (k .keep .ensures) (l .inv .3) (c .if2 .left),
+      turn-on (a .field) (a .fact) (a .src .now) (l .dst) (k .keep .last .0) (l .test) (l .end) (k .keep .result) (o .left-of .result) (Whole (a .field) (a .fact) (a .src .now)) n (b .if1 .left) (l .inv .0) (l .inv .2) (o .left-of .ensures) (k .keep .ensures) (l .inv .3) (c .if2 .left),
+    )
 
 same-length-3 : tie.Need-same-length-3 Inv-loop μ-loop
 same-length-3 c = let l = c .before in l .loop .inv .0 ∙ sym (l .before .before .before .pre .target)

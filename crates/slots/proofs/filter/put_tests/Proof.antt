@@ -84,9 +84,11 @@ loop-again c =
     let l = n .before .loop in
     let s = n .before .before .before .before in
     let a = s .args in
-    let e = put-turn (a .at) (a .count) (l .test) (a .list .now) (l .dst) (itemsWords (itemsOf (a .count) (drop (a .at) (a .list .now)))) (t .test-of .result) (n .loop-test .taken) (omega arith) (t .test-of .ensures) (l .inv .2) in
-    (omega arith, p .put-test .kept .0 ∙ l .inv .1,
-    ap (λ d. take (testWords * (l .test + 1)) d ++ itemsWords (itemsOf (a .count - (l .test + 1)) (drop (a .at + testWords * (l .test + 1)) (a .list .now)))) (p .put-test .ensures) ∙ e)
+    let e = put-turn (a .at) (a .count) (l .test) (a .list .now) (l .dst) (itemsWords (itemsOf (a .count) (drop (a .at) (a .list .now)))) (t .test-of .result) (n .loop-test .taken) (omega arith) (t .test-of .ensures) (l .inv .2) in (
+      omega arith,
+      p .put-test .kept .0 ∙ l .inv .1,
+      ap (λ d. take (testWords * (l .test + 1)) d ++ itemsWords (itemsOf (a .count - (l .test + 1)) (drop (a .at + testWords * (l .test + 1)) (a .list .now)))) (p .put-test .ensures) ∙ e,
+    )
 
 same-length : tie.Need-same-length Inv-loop μ-loop
 same-length c = c .before .loop .inv .1 ∙ sym (c .before .before .before .before .pre .one)
