@@ -179,16 +179,19 @@ module _
         ap₂ cleared (kept .behind) (kept .words) ∙
         kept-out e (getD src (testWords * j + 1) 0) d r (rest n k src (j + 1)) (omega arith) (rw (kept .behind) at h) ∙ joined
 
-    pub turn-long : length d' ≡ filterSlot
+    turn-long : length d' ≡ filterSlot
     turn-long = ap length (kept .words) ∙ kept-long e (getD src (testWords * j + 1) 0) d r one (omega arith)
 
-    pub turn-le : e' ≤ filterSlot → e' ≤ testWords * (j + 1)
+    turn-le : e' ≤ filterSlot → e' ≤ testWords * (j + 1)
     turn-le h = omega (arith, kept .behind, kept-le e r (rw (kept .behind) at h))
 
-    pub turn-on : e' ≤ filterSlot → finished e' d' (rest n k src (j + 1)) ≡ W
+    turn-on : e' ≤ filterSlot → finished e' d' (rest n k src (j + 1)) ≡ W
     turn-on h =
         ap₂ (λ (a : ℕ) (b : List ℕ). finished a b (rest n k src (j + 1))) (kept .behind) (kept .words) ∙
         kept-step e (getD src (testWords * j + 1) 0) d r (rest n k src (j + 1)) (omega arith) (rw (kept .behind) at h) ∙ joined
+
+    pub turn-again : e' ≤ filterSlot → (length d' ≡ filterSlot) × (j + 1 ≤ maxTests) × (e' ≤ testWords * (j + 1)) × (finished e' d' (rest n k src (j + 1)) ≡ W)
+    turn-again h = (turn-long, omega arith, turn-le h, turn-on h)
 
 -- ---- the whole filter
 
