@@ -1,6 +1,6 @@
 -- Cutting one filter's words: stores one after the other, zeros behind, and one more test behind those kept.
 -- Assumes nothing.
-use Prim.Native.Nat.{ℕ, zero, suc, _+_, _*_, _-_, _≤_, _<_}
+use Prim.Native.Nat.{ℕ, suc, _+_, _*_, _-_, _≤_, _<_}
 use mathlib.Core.Path.{_≡_, refl, sym, ap, ap₂, _∙_}
 use mathlib.Core.Bool.{Bool, true, false, cond}
 use mathlib.Core.List.{List, [], _∷_, _++_, append-assoc, append-nil}
@@ -21,7 +21,7 @@ use Rattle.lists.specs.Filters.{Item, testWords, maxTests, testOf, itemOf}
 use Rattle.lists.specs.Accepted.{itemWords}
 use Rattle.states.specs.States.{Standing, out, left, keep, join, cut, cutStanding}
 use Rattle.slots.specs.Words.{filterSlot, outMark, itemsWords, outWords, writtenFilter, readItems, readFilter}
-use Rattle.slots.specs.Steps.{over, cleared, item, leftOf, keptWords, keptAt, finished, pastEnd, Kept}
+use Rattle.slots.specs.Steps.{over, cleared, item, leftOf, keptWords, keptAt, finished, Kept}
 
 pub put-four : (d : List ℕ) (at k f m v : ℕ) → at + testWords ≤ length d → set (set (set (set d at k) (at + 1) f) (at + 2) m) (at + 3) v ≡ over at (k ∷ f ∷ m ∷ v ∷ []) d
 put-four d at k f m v h = rw (add-one at, add-two at, add-three at) (sets-eq (k ∷ f ∷ m ∷ v ∷ []) d at h)
@@ -164,32 +164,34 @@ rest-more n k src j h z =
 -- ---- a turn of the loop over the tests
 
 module _
-  (n : ℕ) (k : Fact) (src d d' : List ℕ) (j e e' : ℕ) (r : Residue) (W : List ℕ)
-  (more : j < maxTests) (test : getD src (testWords * j) 0 ≡ 0 → ⊥)
-  (one : length d ≡ filterSlot) (fits : e ≤ testWords * j)
-  (is : r ≡ leftOf n k (itemOf (drop (testWords * j) src)))
-  (kept : Kept e (getD src (testWords * j + 1) 0) r d d' e')
-  (whole : finished e d (rest n k src j) ≡ W)
+    (n : ℕ) (k : Fact) (src d d' : List ℕ) (j e e' : ℕ) (r : Residue) (W : List ℕ)
+    (more : j < maxTests) (test : getD src (testWords * j) 0 ≡ 0 → ⊥)
+    (one : length d ≡ filterSlot) (fits : e ≤ testWords * j)
+    (is : r ≡ leftOf n k (itemOf (drop (testWords * j) src)))
+    (kept : Kept e (getD src (testWords * j + 1) 0) r d d' e')
+    (whole : finished e d (rest n k src j) ≡ W)
   where
+    joined : finished e d (join (getD src (testWords * j + 1) 0) r (rest n k src (j + 1))) ≡ W
+    joined = ap (λ (x : Standing). finished e d x) (ap (λ (q : Residue). join (getD src (testWords * j + 1) 0) q (rest n k src (j + 1))) is ∙ sym (rest-more n k src j more test)) ∙ whole
 
-  joined : finished e d (join (getD src (testWords * j + 1) 0) r (rest n k src (j + 1))) ≡ W
-  joined = ap (λ (x : Standing). finished e d x) (ap (λ (q : Residue). join (getD src (testWords * j + 1) 0) q (rest n k src (j + 1))) is ∙ sym (rest-more n k src j more test)) ∙ whole
+    pub turn-out : filterSlot < e' → cleared e' d' ≡ W
+    turn-out h =
+        ap₂ cleared (kept .behind) (kept .words) ∙
+        kept-out e (getD src (testWords * j + 1) 0) d r (rest n k src (j + 1)) (omega arith) (rw (kept .behind) at h) ∙ joined
 
-  pub turn-out : filterSlot < e' → cleared e' d' ≡ W
-  turn-out h =
-      ap₂ cleared (kept .behind) (kept .words) ∙
-      kept-out e (getD src (testWords * j + 1) 0) d r (rest n k src (j + 1)) (omega arith) (rw (kept .behind) at h) ∙ joined
+    turn-long : length d' ≡ filterSlot
+    turn-long = ap length (kept .words) ∙ kept-long e (getD src (testWords * j + 1) 0) d r one (omega arith)
 
-  pub turn-long : length d' ≡ filterSlot
-  turn-long = ap length (kept .words) ∙ kept-long e (getD src (testWords * j + 1) 0) d r one (omega arith)
+    turn-le : e' ≤ filterSlot → e' ≤ testWords * (j + 1)
+    turn-le h = omega (arith, kept .behind, kept-le e r (rw (kept .behind) at h))
 
-  pub turn-le : e' ≤ filterSlot → e' ≤ testWords * (j + 1)
-  turn-le h = omega (arith, kept .behind, kept-le e r (rw (kept .behind) at h))
+    turn-on : e' ≤ filterSlot → finished e' d' (rest n k src (j + 1)) ≡ W
+    turn-on h =
+        ap₂ (λ (a : ℕ) (b : List ℕ). finished a b (rest n k src (j + 1))) (kept .behind) (kept .words) ∙
+        kept-step e (getD src (testWords * j + 1) 0) d r (rest n k src (j + 1)) (omega arith) (rw (kept .behind) at h) ∙ joined
 
-  pub turn-on : e' ≤ filterSlot → finished e' d' (rest n k src (j + 1)) ≡ W
-  turn-on h =
-      ap₂ (λ (a : ℕ) (b : List ℕ). finished a b (rest n k src (j + 1))) (kept .behind) (kept .words) ∙
-      kept-step e (getD src (testWords * j + 1) 0) d r (rest n k src (j + 1)) (omega arith) (rw (kept .behind) at h) ∙ joined
+    pub turn-again : e' ≤ filterSlot → (length d' ≡ filterSlot) × (j + 1 ≤ maxTests) × (e' ≤ testWords * (j + 1)) × (finished e' d' (rest n k src (j + 1)) ≡ W)
+    turn-again h = (turn-long, omega arith, turn-le h, turn-on h)
 
 -- ---- the whole filter
 

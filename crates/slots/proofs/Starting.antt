@@ -1,20 +1,20 @@
 -- The start of an accepted list: each filter's tests in front, zeros behind, one filter after the other.
 -- Assumes nothing.
 use Prim.Native.Nat.{ℕ, zero, suc, _+_, _*_, _-_, _≤_, _<_}
-use mathlib.Core.Path.{_≡_, refl, sym, ap, ap₂, _∙_}
+use mathlib.Core.Path.{_≡_, sym, ap, ap₂, _∙_}
 use mathlib.Core.List.{List, [], _∷_, _++_, map, append-assoc, append-nil}
 use native.Mathlib.Omega.{arith}
 use borrow.Rule.Slice.PartMut.{putMid}
-use lib.ListN.{length, getD, take, drop, replicate, length-drop}
+use lib.ListN.{length, getD, take, drop, length-drop}
 use lib.Seq.{drop-drop, getD-drop}
 use Rattle.residue.specs.declared.Test.{Test}
-use Rattle.lists.specs.Filters.{Item, Filter, maxFilters, maxTests, headWords, testWords, countWord, filterWords, testOf, itemOf, itemsOf, filterOf, filtersFrom, filtersOf}
-use Rattle.lists.specs.Refusals.{listedFrom, listed}
+use Rattle.lists.specs.Filters.{Item, Filter, maxFilters, maxTests, headWords, testWords, countWord, filterWords, testOf, itemOf, itemsOf, filterOf, filtersFrom}
+use Rattle.lists.specs.Refusals.{listedFrom}
 use Rattle.lists.specs.Accepted.{itemWords}
 use Rattle.lists.specs.Laws.{NoFault, length-items, accepted-head, accepted-rest, accepted-last, filters-step, filters-none, listed-end}
 use Rattle.lists.specs.declared.Listed.{Listed}
 use Rattle.lists.specs.declared.Listed.the-variants.{Accepted, Refused}
-use Rattle.states.specs.States.{Standing, left, allLeft}
+use Rattle.states.specs.States.{left, allLeft}
 use Rattle.slots.specs.Words.{filterSlot, itemsWords, writtenFilter, written}
 use Rattle.slots.specs.Steps.{over, cleared, item}
 use Rattle.slots.proofs.Cutting.{take-over, item-at, zeros}
@@ -75,7 +75,7 @@ accepted-on (suc m) i t a b (w ∷ ws) e h =
     record {
       sound = accepted-head m i t a b (w ∷ ws) l e;
       rest = ap (λ (x : ℕ). listedFrom x (i + 1) (t + countWord (w ∷ ws)) (drop (filterWords (w ∷ ws)) (w ∷ ws))) (sym z) ∙ accepted-rest m i t a b (w ∷ ws) l e;
-      filters = filters-step m (w ∷ ws) l ∙ ap (λ (x : ℕ). filterOf (w ∷ ws) ∷ filtersFrom x (drop (filterWords (w ∷ ws)) (w ∷ ws))) z
+      filters = filters-step m (w ∷ ws) l ∙ ap (λ (x : ℕ). filterOf (w ∷ ws) ∷ filtersFrom x (drop (filterWords (w ∷ ws)) (w ∷ ws))) z;
     }
 
 accepted-le : (m i t a b : ℕ) (ws : List ℕ) → listedFrom m i t ws ≡ Accepted a b → i ≤ a

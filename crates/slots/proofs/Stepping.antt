@@ -1,9 +1,8 @@
 -- A step and a record put together from what the functions below them ensure.
 -- Assumes nothing.
 use Prim.Native.Nat.{ℕ, _+_, _≤_, _<_, _^_}
-use mathlib.Core.Path.{_≡_, refl, sym, ap, ap₂, _∙_}
+use mathlib.Core.Path.{_≡_, ap, ap₂, _∙_}
 use mathlib.Core.List.{List, [], _∷_, _++_}
-use native.Mathlib.Omega.{arith}
 use lib.ListN.{length, set, drop}
 use lib.Seq.{sets-eq}
 use Rattle.residue.specs.Facts.{factOf}
@@ -12,9 +11,9 @@ use Rattle.residue.specs.declared.Fact.{Fact}
 use Rattle.residue.specs.declared.Outcome.{Outcome}
 use Rattle.fields.specs.Widths.{full}
 use Rattle.sets.specs.Laws.{tally-bound}
-use Rattle.lists.specs.Filters.{Item, maxFilters, testOf, itemOf}
+use Rattle.lists.specs.Filters.{maxFilters, testOf, itemOf}
 use Rattle.slots.specs.Slots.{outSetIn, sureSetIn, closedWords, questionIn, cutWords, stepQuestion, stepWords, freshWords}
-use Rattle.slots.specs.Steps.{item, freshLength}
+use Rattle.slots.specs.Steps.{freshLength}
 
 pub step-is : (n : ℕ) (ranks : List ℕ) (o : Outcome) (w : List ℕ) (k f m v g : ℕ) (t : Test) (c : Fact) (cut done : List ℕ)
     → k ∷ f ∷ m ∷ v ∷ [] ≡ questionIn n w → t ≡ testOf k m v → g ≡ full f → c ≡ factOf g o t → cut ≡ cutWords n f c w → done ≡ closedWords n ranks cut

@@ -6,10 +6,10 @@
 --   keptWords, keptAt   the words, and the place behind the last kept test, after one more test
 --   finished e d x      d up to place e, then the tests of x, zeros behind
 --   markedSet n m w     the filters whose first word is m
-use Prim.Native.Nat.{ℕ, _+_, _*_, _-_, _≤_, _<_}
+use Prim.Native.Nat.{ℕ, _+_, _*_, _-_, _≤_}
 use mathlib.Core.Path.{_≡_}
 use mathlib.Core.Bool.{cond}
-use mathlib.Core.List.{List, [], _∷_, _++_}
+use mathlib.Core.List.{List, _++_}
 use lib.Dec.{eqb}
 use lib.ListN.{length, take, drop, replicate}
 use Rattle.residue.specs.Residues.{residueBy}
@@ -18,7 +18,7 @@ use Rattle.residue.specs.declared.Fact.{Fact}
 use Rattle.residue.specs.declared.Residue.{Residue}
 use Rattle.residue.specs.declared.Residue.the-variants.{True, False, Left}
 use Rattle.fields.specs.Widths.{full}
-use Rattle.lists.specs.Filters.{Item, maxFilters, maxTests, testWords, itemOf}
+use Rattle.lists.specs.Filters.{Item, maxFilters, maxTests, testWords}
 use Rattle.lists.specs.Refusals.{listed}
 use Rattle.lists.specs.Accepted.{itemWords}
 use Rattle.lists.specs.declared.Listed.the-variants.{Accepted}

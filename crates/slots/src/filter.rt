@@ -8,10 +8,20 @@ ghost use Rattle.lists.specs.Accepted.{itemWords};
 ghost use Rattle.states.specs.States.{cutStanding, left};
 ghost use Rattle.slots.specs.Words.{filterSlot, itemsWords, outWords, writtenFilter, readFilter};
 ghost use Rattle.slots.specs.Steps.{over, cleared, item, leftOf, Room, Kept, Two, Cut, Tests};
-
 use residue::Fact;
 use residue::Residue;
 use residue::Test;
+
+// Words a filter, words a test, tests a filter, and the first word of a filter that is out (specs/Words).
+pub const FILTER_WORDS: usize = 32;
+
+pub const TEST_WORDS: usize = 4;
+
+const MAX_TESTS: usize = 8;
+
+pub const OUT: u32 = 5;
+// A place beyond every filter's words.
+const PAST_END: usize = 33;
 
 // The test that the words kind, mask and value say; a kind that is none reads as the last.
 pub fn test_of(kind: u32, mask: u32, value: u32) -> Test
@@ -65,7 +75,7 @@ pub fn set_out(dst: &mut [u32])
     requires { ⌜ length (now dst) ≡ filterSlot ⌝ }
     ensures { λ _. ⌜ now (dst .exit) ≡ outWords ⌝ }
 {
-    dst[0] = 5;
+    dst[0] = OUT;
     clear_from(dst, 1);
 }
 
@@ -91,11 +101,11 @@ fn keep(dst: &mut [u32], end: usize, field: u32, rest: Residue) -> usize
         Residue::True => end,
         Residue::False => {
             set_out(dst);
-            33
+            PAST_END
         }
         Residue::Left(test) => {
             put_test(dst, end, field, test);
-            end + 4
+            end + TEST_WORDS
         }
     }
 }
@@ -107,13 +117,13 @@ fn cut_tests(src: &[u32], dst: &mut [u32], field: u32, fact: Fact) -> usize
 {
     let mut test: usize = 0;
     let mut end: usize = 0;
-    while test < 8 {
-        let at = 4 * test;
+    while test < MAX_TESTS {
+        let at = TEST_WORDS * test;
         if src[at] == 0 {
             return end;
         }
         end = keep(dst, end, src[at + 1], left_of(src, at, field, fact));
-        if 32 < end {
+        if FILTER_WORDS < end {
             return end;
         }
         test += 1;
@@ -126,7 +136,7 @@ pub fn cut_filter(src: &[u32], dst: &mut [u32], field: u32, fact: Fact)
     requires { ⌜ Two (now src) (now dst) ⌝ }
     ensures { λ _. ⌜ now (dst .exit) ≡ writtenFilter (cutStanding field fact (readFilter (now (src .entry)))) ⌝ }
 {
-    if src[0] == 5 {
+    if src[0] == OUT {
         set_out(dst);
     } else {
         let end = cut_tests(src, dst, field, fact);
@@ -141,7 +151,7 @@ fn put_tests(list: &[u32], at: usize, count: usize, dst: &mut [u32])
 {
     let mut test: usize = 0;
     while test < count {
-        let to = 4 * test;
+        let to = TEST_WORDS * test;
         let from = at + to;
         let read = test_of(list[from], list[from + 2], list[from + 3]);
         put_test(dst, to, list[from + 1], read);
@@ -155,5 +165,5 @@ pub fn fill(list: &[u32], at: usize, count: usize, dst: &mut [u32])
     ensures { λ _. ⌜ now (dst .exit) ≡ writtenFilter (left (itemsOf count (drop at (now (list .entry))))) ⌝ }
 {
     put_tests(list, at, count, dst);
-    clear_from(dst, 4 * count);
+    clear_from(dst, TEST_WORDS * count);
 }

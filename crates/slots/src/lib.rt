@@ -10,11 +10,18 @@ ghost use Rattle.states.specs.States.{allLeft};
 ghost use Rattle.slots.specs.Words.{filterSlot, outWords, written, writtenFilter};
 ghost use Rattle.slots.specs.Slots.{heldSet, outSetIn, sureSetIn, closedIn, closedWords, questionIn, cutWords, stepWords, startWords, freshWords, sameWords};
 ghost use Rattle.slots.specs.Steps.{freshLength, markedSet, State, Ranked, Both, Stepped, Recorded, Starts};
-
+use filter::FILTER_WORDS;
+use filter::OUT;
+use filter::TEST_WORDS;
 use residue::Fact;
 use residue::Outcome;
 
 pub mod filter;
+
+// The first word of a held filter.
+const HELD: u32 = 0;
+// The words of a list before a filter's tests.
+const HEAD_WORDS: usize = 3;
 
 // The words of a test; all 0 where there is none to ask.
 pub struct Question {
@@ -32,7 +39,7 @@ fn marked(w: &[u32], n: usize, mark: u32) -> u32
     let mut set: u32 = 0;
     let mut i: usize = 0;
     while i < n {
-        set = sets::put(set, i as u32, w[32 * i] == mark);
+        set = sets::put(set, i as u32, w[FILTER_WORDS * i] == mark);
         i += 1;
     }
     set
@@ -42,14 +49,14 @@ pub fn held_set(w: &[u32], n: usize) -> u32
     requires { ⌜ State n (now w) ⌝ }
     ensures { λ r. ⌜ r ≡ heldSet n (now (w .entry)) ⌝ }
 {
-    marked(w, n, 0)
+    marked(w, n, HELD)
 }
 
 pub fn out_set(w: &[u32], n: usize) -> u32
     requires { ⌜ State n (now w) ⌝ }
     ensures { λ r. ⌜ r ≡ outSetIn n (now (w .entry)) ⌝ }
 {
-    marked(w, n, 5)
+    marked(w, n, OUT)
 }
 
 // A filter's words, made out unless it stays.
@@ -69,8 +76,8 @@ fn close_by(w: &mut [u32], n: usize, ranks: &[u32], held: u32)
 {
     let mut i: usize = 0;
     while i < n {
-        let from = 32 * i;
-        let to = from + 32;
+        let from = FILTER_WORDS * i;
+        let to = from + FILTER_WORDS;
         let stays = ranks[i] & held == 0;
         stay(&mut w[from..to], stays);
         i += 1;
@@ -93,8 +100,8 @@ fn cut_all(src: &[u32], dst: &mut [u32], n: usize, field: u32, fact: Fact)
 {
     let mut i: usize = 0;
     while i < n {
-        let from = 32 * i;
-        let to = from + 32;
+        let from = FILTER_WORDS * i;
+        let to = from + FILTER_WORDS;
         filter::cut_filter(&src[from..to], &mut dst[from..to], field, fact);
         i += 1;
     }
@@ -109,7 +116,7 @@ pub fn sure_set(w: &[u32], n: usize, ranks: &[u32]) -> u32
     let mut set: u32 = 0;
     let mut i: usize = 0;
     while i < n {
-        let sure = (w[32 * i] == 0) & (ranks[i] & !out == 0);
+        let sure = (w[FILTER_WORDS * i] == HELD) & (ranks[i] & !out == 0);
         set = sets::put(set, i as u32, sure);
         i += 1;
     }
@@ -123,9 +130,9 @@ pub fn question_of(w: &[u32], n: usize) -> Question
 {
     let mut i: usize = 0;
     while i < n {
-        let at = 32 * i;
+        let at = FILTER_WORDS * i;
         let kind = w[at];
-        if (kind != 0) & (kind != 5) {
+        if (kind != HELD) & (kind != OUT) {
             return Question {
                 kind,
                 field: w[at + 1],
@@ -178,12 +185,12 @@ pub fn same(a: &[u32], b: &[u32]) -> bool
     requires { ⌜ length (now a) ≡ length (now b) ⌝ }
     ensures { λ r. ⌜ r ≡ sameWords (now (a .entry)) (now (b .entry)) ⌝ }
 {
-    let mut i: usize = 0;
-    while i < a.len() {
-        if a[i] != b[i] {
+    let mut at: usize = 0;
+    while at < a.len() {
+        if a[at] != b[at] {
             return false;
         }
-        i += 1;
+        at += 1;
     }
     true
 }
@@ -196,12 +203,12 @@ fn fill_all(list: &[u32], dst: &mut [u32], n: usize)
     let mut at: usize = 0;
     let mut i: usize = 0;
     while i < n {
-        let from = 32 * i;
-        let to = from + 32;
+        let from = FILTER_WORDS * i;
+        let to = from + FILTER_WORDS;
         let count = list[at + 2] as usize;
-        let tests = at + 3;
+        let tests = at + HEAD_WORDS;
         filter::fill(list, tests, count, &mut dst[from..to]);
-        at = tests + 4 * count;
+        at = tests + TEST_WORDS * count;
         i += 1;
     }
 }

@@ -5,10 +5,6 @@ use mathlib.Core.Path.{ap, _∙_}
 use borrow.Author.Needs.{needs}
 use Rattle.slots.proofs.close.Statement.{statement}
 use Rattle.slots.proofs.close.Tie as tie
-use Rattle.slots.proofs.close.Reads as reads
-use Rattle.slots.proofs.close.Lts as lts
-use Rattle.slots.proofs.close_by.Reads as close-by-reads
-use Rattle.slots.proofs.held_set.Reads as held-set-reads
 
 held-set-requires : tie.Need-held-set-requires
 held-set-requires c κs = search needs

@@ -7,14 +7,11 @@ use Rattle.slots.specs.Words.{filterSlot}
 use lib.ListN.{length, take, drop}
 use native.Mathlib.Omega.{arith}
 use mathlib.Core.List.{_++_}
-use mathlib.Core.Path.{_≡_, refl, sym, ap, _∙_}
+use mathlib.Core.Path.{_≡_, sym, ap, _∙_}
 use Prim.Native.Nat.{_≤_, _*_, _-_}
 use borrow.Author.Needs.{needs}
 use Rattle.slots.proofs.close_by.Statement.{statement}
 use Rattle.slots.proofs.close_by.Tie as tie
-use Rattle.slots.proofs.close_by.Reads as reads
-use Rattle.slots.proofs.close_by.Lts as lts
-use Rattle.slots.proofs.stay.Reads as stay-reads
 
 abbrev Inv-loop : tie.InvT-loop
 Inv-loop w₀ n ranks held i₀ w i = (i ≤ n) × (length w ≡ filterSlot * n) × (take (filterSlot * i) w ++ closedIn (n - i) ranks held i (drop (filterSlot * i) w) ≡ closedIn n ranks held 0 w₀)
@@ -72,10 +69,11 @@ loop-again c =
     let a = t .before .before .before .before .args in
     let h = t .loop-test .taken in
     let r = room (l .i) (a .n) (l .w) h (l .inv .1) in
-    let m = s .stay .kept .0 ∙ part-long (filterSlot * l .i) (l .w) r in
-    (omega arith,
-    lent-long (l .i) (l .w) (s .stay .last .0) r m ∙ l .inv .1,
-    close-turn (a .n) (l .i) (a .ranks .now) (a .held) (l .w) (s .stay .last .0) (closedIn (a .n) (a .ranks .now) (a .held) 0 (a .w .now)) h (l .inv .1) m (s .stay .ensures) (l .inv .2))
+    let m = s .stay .kept .0 ∙ part-long (filterSlot * l .i) (l .w) r in (
+      omega arith,
+      lent-long (l .i) (l .w) (s .stay .last .0) r m ∙ l .inv .1,
+      close-turn (a .n) (l .i) (a .ranks .now) (a .held) (l .w) (s .stay .last .0) (closedIn (a .n) (a .ranks .now) (a .held) 0 (a .w .now)) h (l .inv .1) m (s .stay .ensures) (l .inv .2),
+    )
 
 same-length : tie.Need-same-length Inv-loop μ-loop
 same-length c = c .before .loop .inv .1 ∙ sym (c .before .before .before .before .pre .whole)

@@ -7,14 +7,11 @@ use Rattle.slots.specs.Words.{filterSlot}
 use lib.ListN.{length, take, drop}
 use native.Mathlib.Omega.{arith}
 use mathlib.Core.List.{_++_}
-use mathlib.Core.Path.{_≡_, refl, sym, ap, _∙_}
+use mathlib.Core.Path.{_≡_, sym, ap, _∙_}
 use Prim.Native.Nat.{_≤_, _*_, _-_}
 use borrow.Author.Needs.{needs}
 use Rattle.slots.proofs.cut_all.Statement.{statement}
 use Rattle.slots.proofs.cut_all.Tie as tie
-use Rattle.slots.proofs.cut_all.Reads as reads
-use Rattle.slots.proofs.cut_all.Lts as lts
-use Rattle.slots.proofs.filter.cut_filter.Reads as cut-filter-reads
 
 abbrev Inv-loop : tie.InvT-loop
 Inv-loop src dst₀ n field fact i₀ dst i = (i ≤ n) × (length dst ≡ filterSlot * n) × (take (filterSlot * i) dst ++ cutWords (n - i) field fact (drop (filterSlot * i) src) ≡ cutWords n field fact src)
@@ -79,10 +76,11 @@ loop-again c =
     let a = t .before .before .before .before .args in
     let h = t .loop-test .taken in
     let r = room (l .i) (a .n) (l .dst) h (l .inv .1) in
-    let m = s .cut-filter .kept .1 .0 ∙ part-long (filterSlot * l .i) (l .dst) r in
-    (omega arith,
-    lent-long (l .i) (l .dst) (s .cut-filter .last .1 .0) r m ∙ l .inv .1,
-    cut-turn (a .n) (l .i) (a .field) (a .fact) (a .src .now) (l .dst) (s .cut-filter .last .1 .0) (cutWords (a .n) (a .field) (a .fact) (a .src .now)) h (l .inv .1) m (s .cut-filter .ensures) (l .inv .2))
+    let m = s .cut-filter .kept .1 .0 ∙ part-long (filterSlot * l .i) (l .dst) r in (
+      omega arith,
+      lent-long (l .i) (l .dst) (s .cut-filter .last .1 .0) r m ∙ l .inv .1,
+      cut-turn (a .n) (l .i) (a .field) (a .fact) (a .src .now) (l .dst) (s .cut-filter .last .1 .0) (cutWords (a .n) (a .field) (a .fact) (a .src .now)) h (l .inv .1) m (s .cut-filter .ensures) (l .inv .2),
+    )
 
 same-length : tie.Need-same-length Inv-loop μ-loop
 same-length c = c .before .loop .inv .1 ∙ sym (c .before .before .before .before .pre .target)

@@ -7,7 +7,7 @@ use Rattle.states.specs.States.{allLeft}
 use Rattle.lists.specs.declared.Listed.the-variants.{Accepted}
 use Rattle.lists.specs.Refusals.{listedFrom, listed}
 use Rattle.lists.specs.Filters.{maxFilters, countWord, filtersFrom, filtersOf}
-use lib.ListN.{length, getD, take, drop}
+use lib.ListN.{length, take, drop}
 use native.Mathlib.Omega.{arith}
 use mathlib.Core.List.{_++_, map}
 use mathlib.Core.Path.{_≡_, refl, sym, ap, _∙_}
@@ -15,9 +15,6 @@ use Prim.Native.Nat.{ℕ, _≤_, _+_, _*_, _-_}
 use borrow.Author.Needs.{needs}
 use Rattle.slots.proofs.fill_all.Statement.{statement}
 use Rattle.slots.proofs.fill_all.Tie as tie
-use Rattle.slots.proofs.fill_all.Reads as reads
-use Rattle.slots.proofs.fill_all.Lts as lts
-use Rattle.slots.proofs.filter.fill.Reads as fill-reads
 
 abbrev Inv-loop : tie.InvT-loop
 Inv-loop list dst₀ n at₀ i₀ dst at i = (i ≤ n) × (length dst ≡ filterSlot * n) × ((t : ℕ) × (b : ℕ) × (listedFrom (maxFilters - i) i t (drop at list) ≡ Accepted n b)) × (take (filterSlot * i) dst ++ written (map allLeft (filtersFrom (maxFilters - i) (drop at list))) ≡ written (map allLeft (filtersOf list)))
@@ -97,11 +94,12 @@ loop-again c =
     let q = l .inv .2 in
     let r = room (l .i) (a .n) (l .dst) h (l .inv .1) in
     let m = f .fill .kept .1 .1 .1 .0 ∙ part-long (filterSlot * l .i) (l .dst) r in
-    let p = f .fill .last .1 .1 .1 .0 in
-    (omega arith,
-    lent-long (l .i) (l .dst) p r m ∙ l .inv .1,
-    (q .0 + countWord (drop (l .at) (a .list .now)), q .1, listed-next (a .n) (l .i) (q .0) (q .1) (l .at) (a .list .now) (q .2) h),
-    fill-turn (a .n) (l .i) (q .0) (q .1) (l .at) (a .list .now) (q .2) h (filterSlot * l .i + filterSlot - filterSlot * l .i) (l .dst) p (written (map allLeft (filtersOf (a .list .now)))) (l .inv .1) m (f .fill .ensures) (l .inv .3))
+    let p = f .fill .last .1 .1 .1 .0 in (
+      omega arith,
+      lent-long (l .i) (l .dst) p r m ∙ l .inv .1,
+      (q .0 + countWord (drop (l .at) (a .list .now)), q .1, listed-next (a .n) (l .i) (q .0) (q .1) (l .at) (a .list .now) (q .2) h),
+      fill-turn (a .n) (l .i) (q .0) (q .1) (l .at) (a .list .now) (q .2) h (filterSlot * l .i + filterSlot - filterSlot * l .i) (l .dst) p (written (map allLeft (filtersOf (a .list .now)))) (l .inv .1) m (f .fill .ensures) (l .inv .3),
+    )
 
 same-length : tie.Need-same-length Inv-loop μ-loop
 same-length c = c .before .loop .inv .1 ∙ sym (c .before .before .before .before .pre .target)

@@ -9,9 +9,6 @@ use Prim.Native.Nat.{_≤_, _-_}
 use borrow.Author.Needs.{needs}
 use Rattle.slots.proofs.marked.Statement.{statement}
 use Rattle.slots.proofs.marked.Tie as tie
-use Rattle.slots.proofs.marked.Reads as reads
-use Rattle.slots.proofs.marked.Lts as lts
-use Rattle.sets.proofs.put.Reads as put-reads
 
 abbrev Inv-loop : tie.InvT-loop
 Inv-loop w n mark set₀ i₀ set i = (i ≤ n) × (set ≡ markedSet i mark w)

@@ -5,9 +5,6 @@ use Rattle.slots.specs.Slots.{outSetIn}
 use borrow.Author.Needs.{needs}
 use Rattle.slots.proofs.out_set.Statement.{statement}
 use Rattle.slots.proofs.out_set.Tie as tie
-use Rattle.slots.proofs.out_set.Reads as reads
-use Rattle.slots.proofs.out_set.Lts as lts
-use Rattle.slots.proofs.marked.Reads as marked-reads
 
 marked-requires : tie.Need-marked-requires
 marked-requires c κs = search needs

@@ -11,8 +11,6 @@ use Prim.Native.Nat.{_≤_, _*_, _-_}
 use borrow.Author.Needs.{needs}
 use Rattle.slots.proofs.question_of.Statement.{statement}
 use Rattle.slots.proofs.question_of.Tie as tie
-use Rattle.slots.proofs.question_of.Reads as reads
-use Rattle.slots.proofs.question_of.Lts as lts
 
 abbrev Inv-loop : tie.InvT-loop
 Inv-loop w n i₀ i = (i ≤ n) × (questionIn n w ≡ questionIn (n - i) (drop (filterSlot * i) w))

@@ -9,14 +9,12 @@ use Prim.Native.Nat.{_≤_, _-_}
 use borrow.Author.Needs.{needs}
 use Rattle.slots.proofs.same.Statement.{statement}
 use Rattle.slots.proofs.same.Tie as tie
-use Rattle.slots.proofs.same.Reads as reads
-use Rattle.slots.proofs.same.Lts as lts
 
 abbrev Inv-loop : tie.InvT-loop
-Inv-loop a b i₀ i = (i ≤ length a) × (sameWords a b ≡ sameWords (drop i a) (drop i b))
+Inv-loop a b at₀ at = (at ≤ length a) × (sameWords a b ≡ sameWords (drop at a) (drop at b))
 
 abbrev μ-loop : tie.MeasureT-loop
-μ-loop a b i₀ i = length a - i
+μ-loop a b at₀ at = length a - at
 
 loop-holds : tie.Need-loop-holds Inv-loop μ-loop
 loop-holds c = (omega arith, refl)
@@ -37,10 +35,10 @@ returns : tie.Need-returns Inv-loop μ-loop
 returns c =
     let l = c .before .before .before .before in
     let s = l .before in
-    sym (l .loop .inv .1 ∙ same-differ (s .args .a .now) (s .args .b .now) (l .loop .i) (s .pre) (c .before .before .before .loop-test .taken) (c .if1 .taken))
+    sym (l .loop .inv .1 ∙ same-differ (s .args .a .now) (s .args .b .now) (l .loop .at) (s .pre) (c .before .before .before .loop-test .taken) (c .if1 .taken))
 
-add-i : tie.Need-add-i Inv-loop μ-loop
-add-i c = search needs
+add-at : tie.Need-add-at Inv-loop μ-loop
+add-at c = search needs
 
 loop-less : tie.Need-loop-less Inv-loop μ-loop
 loop-less c = search needs
@@ -49,13 +47,13 @@ loop-again : tie.Need-loop-again Inv-loop μ-loop
 loop-again c =
     let l = c .before .before .before .before in
     let s = l .before in
-    (omega arith, l .loop .inv .1 ∙ same-more (s .args .a .now) (s .args .b .now) (l .loop .i) (s .pre) (c .before .before .before .loop-test .taken) (c .if1 .left))
+    (omega arith, l .loop .inv .1 ∙ same-more (s .args .a .now) (s .args .b .now) (l .loop .at) (s .pre) (c .before .before .before .loop-test .taken) (c .if1 .left))
 
 returns-2 : tie.Need-returns-2 Inv-loop μ-loop
 returns-2 c =
     let l = c .before in
     let s = l .before in
-    sym (l .loop .inv .1 ∙ same-end (s .args .a .now) (s .args .b .now) (l .loop .i) (s .pre) (c .loop-test .left))
+    sym (l .loop .inv .1 ∙ same-end (s .args .a .now) (s .args .b .now) (l .loop .at) (s .pre) (c .loop-test .left))
 
 pub same-spec : {M : Type 1} → statement M
 same-spec =
@@ -69,7 +67,7 @@ same-spec =
     mul-if1-2
     shared-slice-read-if1-2
     returns
-    add-i
+    add-at
     loop-less
     loop-again
     returns-2)

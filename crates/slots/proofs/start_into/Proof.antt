@@ -6,10 +6,6 @@ use mathlib.Core.Path.{ap, _∙_}
 use borrow.Author.Needs.{needs}
 use Rattle.slots.proofs.start_into.Statement.{statement}
 use Rattle.slots.proofs.start_into.Tie as tie
-use Rattle.slots.proofs.start_into.Reads as reads
-use Rattle.slots.proofs.start_into.Lts as lts
-use Rattle.slots.proofs.close.Reads as close-reads
-use Rattle.slots.proofs.fill_all.Reads as fill-all-reads
 
 fill-all-requires : tie.Need-fill-all-requires
 fill-all-requires c κs = search needs

@@ -4,14 +4,6 @@ use Rattle.slots.proofs.Stepping.{step-is}
 use borrow.Author.Needs.{needs}
 use Rattle.slots.proofs.step_into.Statement.{statement}
 use Rattle.slots.proofs.step_into.Tie as tie
-use Rattle.slots.proofs.step_into.Reads as reads
-use Rattle.slots.proofs.step_into.Lts as lts
-use Rattle.fields.proofs.full_of.Reads as full-of-reads
-use Rattle.residue.proofs.fact_of.Reads as fact-of-reads
-use Rattle.slots.proofs.close.Reads as close-reads
-use Rattle.slots.proofs.cut_all.Reads as cut-all-reads
-use Rattle.slots.proofs.filter.test_of.Reads as test-of-reads
-use Rattle.slots.proofs.question_of.Reads as question-of-reads
 
 question-of-requires : tie.Need-question-of-requires
 question-of-requires c κs = search needs

@@ -6,14 +6,10 @@ use Rattle.slots.specs.Slots.{sureSetIn}
 use Rattle.sets.specs.Sets.{setOf, tally}
 use native.Mathlib.Omega.{arith}
 use mathlib.Core.Path.{_≡_, refl, ap, _∙_}
-use Prim.Native.Nat.{_≤_, _-_, _^_, _<_}
+use Prim.Native.Nat.{_≤_, _-_}
 use borrow.Author.Needs.{needs}
 use Rattle.slots.proofs.sure_set.Statement.{statement}
 use Rattle.slots.proofs.sure_set.Tie as tie
-use Rattle.slots.proofs.sure_set.Reads as reads
-use Rattle.slots.proofs.sure_set.Lts as lts
-use Rattle.sets.proofs.put.Reads as put-reads
-use Rattle.slots.proofs.out_set.Reads as out-set-reads
 
 abbrev Inv-loop : tie.InvT-loop
 Inv-loop w n ranks out set₀ i₀ set i = (i ≤ n) × (set ≡ setOf (tally i (sureAt ranks out w)))

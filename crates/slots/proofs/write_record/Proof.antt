@@ -6,11 +6,6 @@ use native.Mathlib.Omega.{arith}
 use borrow.Author.Needs.{needs}
 use Rattle.slots.proofs.write_record.Statement.{statement}
 use Rattle.slots.proofs.write_record.Tie as tie
-use Rattle.slots.proofs.write_record.Reads as reads
-use Rattle.slots.proofs.write_record.Lts as lts
-use Rattle.slots.proofs.out_set.Reads as out-set-reads
-use Rattle.slots.proofs.question_of.Reads as question-of-reads
-use Rattle.slots.proofs.sure_set.Reads as sure-set-reads
 
 question-of-requires : tie.Need-question-of-requires
 question-of-requires c κs = search needs

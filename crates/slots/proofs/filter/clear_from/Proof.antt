@@ -9,8 +9,6 @@ use Prim.Native.Nat.{_-_}
 use borrow.Author.Needs.{needs}
 use Rattle.slots.proofs.filter.clear_from.Statement.{statement}
 use Rattle.slots.proofs.filter.clear_from.Tie as tie
-use Rattle.slots.proofs.filter.clear_from.Reads as reads
-use Rattle.slots.proofs.filter.clear_from.Lts as lts
 
 abbrev Inv-loop : tie.InvT-loop
 Inv-loop dst₀ from i₀ dst i = (length dst ≡ length dst₀) × (cleared i dst ≡ cleared from dst₀)

@@ -5,11 +5,6 @@ use mathlib.Core.Path.{_∙_}
 use borrow.Author.Needs.{needs}
 use Rattle.slots.proofs.filter.cut_filter.Statement.{statement}
 use Rattle.slots.proofs.filter.cut_filter.Tie as tie
-use Rattle.slots.proofs.filter.cut_filter.Reads as reads
-use Rattle.slots.proofs.filter.cut_filter.Lts as lts
-use Rattle.slots.proofs.filter.clear_from.Reads as clear-from-reads
-use Rattle.slots.proofs.filter.cut_tests.Reads as cut-tests-reads
-use Rattle.slots.proofs.filter.set_out.Reads as set-out-reads
 
 shared-slice-read-if1 : tie.Need-shared-slice-read-if1
 shared-slice-read-if1 c = search needs

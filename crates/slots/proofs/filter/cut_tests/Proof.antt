@@ -3,7 +3,7 @@
 use Rattle.residue.specs.declared.Fact.{Fact}
 use mathlib.Core.List.{List}
 use Prim.Native.Nat.{ℕ}
-use Rattle.slots.proofs.Cutting.{rest, rest-stop, rest-end, finished-start, finished-end, turn-out, turn-long, turn-le, turn-on}
+use Rattle.slots.proofs.Cutting.{rest, rest-stop, rest-end, finished-start, finished-end, turn-out, turn-again}
 use Rattle.slots.specs.Steps.{finished}
 use Rattle.slots.specs.Words.{filterSlot, writtenFilter, readItems}
 use Rattle.states.specs.States.{cut}
@@ -15,10 +15,6 @@ use Prim.Native.Nat.{_≤_, _*_, _-_}
 use borrow.Author.Needs.{needs}
 use Rattle.slots.proofs.filter.cut_tests.Statement.{statement}
 use Rattle.slots.proofs.filter.cut_tests.Tie as tie
-use Rattle.slots.proofs.filter.cut_tests.Reads as reads
-use Rattle.slots.proofs.filter.cut_tests.Lts as lts
-use Rattle.slots.proofs.filter.keep.Reads as keep-reads
-use Rattle.slots.proofs.filter.left_of.Reads as left-of-reads
 
 abbrev Whole : ℕ → Fact → List ℕ → List ℕ
 Whole n k src = writtenFilter (cut n k (readItems maxTests src))
@@ -93,11 +89,8 @@ loop-again c =
     let b = o .before .before .before in
     let l = b .before .before .before .loop in
     let a = b .before .before .before .before .before .before .args in
-    let n = b .before .before .loop-test .taken in
-    (turn-long (a .field) (a .fact) (a .src .now) (l .dst) (k .keep .last .0) (l .test) (l .end) (k .keep .result) (o .left-of .result) (Whole (a .field) (a .fact) (a .src .now)) n (b .if1 .left) (l .inv .0) (l .inv .2) (o .left-of .ensures) (k .keep .ensures) (l .inv .3),
-    omega arith,
-    turn-le (a .field) (a .fact) (a .src .now) (l .dst) (k .keep .last .0) (l .test) (l .end) (k .keep .result) (o .left-of .result) (Whole (a .field) (a .fact) (a .src .now)) n (b .if1 .left) (l .inv .0) (l .inv .2) (o .left-of .ensures) (k .keep .ensures) (l .inv .3) (c .if2 .left),
-    turn-on (a .field) (a .fact) (a .src .now) (l .dst) (k .keep .last .0) (l .test) (l .end) (k .keep .result) (o .left-of .result) (Whole (a .field) (a .fact) (a .src .now)) n (b .if1 .left) (l .inv .0) (l .inv .2) (o .left-of .ensures) (k .keep .ensures) (l .inv .3) (c .if2 .left))
+    turn-again (a .field) (a .fact) (a .src .now) (l .dst) (k .keep .last .0) (l .test) (l .end) (k .keep .result) (o .left-of .result) (Whole (a .field) (a .fact) (a .src .now))
+    (b .before .before .loop-test .taken) (b .if1 .left) (l .inv .0) (l .inv .2) (o .left-of .ensures) (k .keep .ensures) (l .inv .3) (c .if2 .left)
 
 same-length-3 : tie.Need-same-length-3 Inv-loop μ-loop
 same-length-3 c = let l = c .before in l .loop .inv .0 ∙ sym (l .before .before .before .pre .target)

@@ -6,10 +6,6 @@ use mathlib.Core.Path.{_∙_}
 use borrow.Author.Needs.{needs}
 use Rattle.slots.proofs.filter.fill.Statement.{statement}
 use Rattle.slots.proofs.filter.fill.Tie as tie
-use Rattle.slots.proofs.filter.fill.Reads as reads
-use Rattle.slots.proofs.filter.fill.Lts as lts
-use Rattle.slots.proofs.filter.clear_from.Reads as clear-from-reads
-use Rattle.slots.proofs.filter.put_tests.Reads as put-tests-reads
 
 put-tests-requires : tie.Need-put-tests-requires
 put-tests-requires c κs = search needs

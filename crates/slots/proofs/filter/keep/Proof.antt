@@ -1,15 +1,9 @@
 -- `slots::filter::keep` meets its contract. Each arm is a clause of the definitions.
 -- Assumes nothing.
 use Rattle.slots.specs.Steps.{keptWords, keptAt}
-use mathlib.Core.Path.{refl}
-use native.Mathlib.Omega.{arith}
 use borrow.Author.Needs.{needs}
 use Rattle.slots.proofs.filter.keep.Statement.{statement}
 use Rattle.slots.proofs.filter.keep.Tie as tie
-use Rattle.slots.proofs.filter.keep.Reads as reads
-use Rattle.slots.proofs.filter.keep.Lts as lts
-use Rattle.slots.proofs.filter.put_test.Reads as put-test-reads
-use Rattle.slots.proofs.filter.set_out.Reads as set-out-reads
 
 enum-told : tie.Need-enum-told
 enum-told c = search needs

@@ -4,9 +4,6 @@ use Rattle.lists.specs.Accepted.{itemWords, kindOf, maskOf, valueOf}
 use borrow.Author.Needs.{needs}
 use Rattle.slots.proofs.filter.put_test.Statement.{statement}
 use Rattle.slots.proofs.filter.put_test.Tie as tie
-use Rattle.slots.proofs.filter.put_test.Reads as reads
-use Rattle.slots.proofs.filter.put_test.Lts as lts
-use Rattle.slots.proofs.filter.put_words.Reads as put-words-reads
 
 enum-known-test : tie.Need-enum-known-test
 enum-known-test c = search needs

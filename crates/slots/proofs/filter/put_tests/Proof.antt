@@ -7,15 +7,11 @@ use lib.ListN.{length, take, drop}
 use native.Mathlib.Nat.{sub-zero, add-zero}
 use native.Mathlib.Omega.{arith}
 use mathlib.Core.List.{_++_}
-use mathlib.Core.Path.{_≡_, refl, sym, ap, ap₂, _∙_}
+use mathlib.Core.Path.{_≡_, sym, ap, ap₂, _∙_}
 use Prim.Native.Nat.{_≤_, _+_, _*_, _-_}
 use borrow.Author.Needs.{needs}
 use Rattle.slots.proofs.filter.put_tests.Statement.{statement}
 use Rattle.slots.proofs.filter.put_tests.Tie as tie
-use Rattle.slots.proofs.filter.put_tests.Reads as reads
-use Rattle.slots.proofs.filter.put_tests.Lts as lts
-use Rattle.slots.proofs.filter.put_test.Reads as put-test-reads
-use Rattle.slots.proofs.filter.test_of.Reads as test-of-reads
 
 abbrev Inv-loop : tie.InvT-loop
 Inv-loop list at count dst₀ test₀ dst test = (test ≤ count) × (length dst ≡ filterSlot) × (take (testWords * test) dst ++ itemsWords (itemsOf (count - test) (drop (at + testWords * test) list)) ≡ itemsWords (itemsOf count (drop at list)))
@@ -88,9 +84,11 @@ loop-again c =
     let l = n .before .loop in
     let s = n .before .before .before .before in
     let a = s .args in
-    let e = put-turn (a .at) (a .count) (l .test) (a .list .now) (l .dst) (itemsWords (itemsOf (a .count) (drop (a .at) (a .list .now)))) (t .test-of .result) (n .loop-test .taken) (omega arith) (t .test-of .ensures) (l .inv .2) in
-    (omega arith, p .put-test .kept .0 ∙ l .inv .1,
-    ap (λ d. take (testWords * (l .test + 1)) d ++ itemsWords (itemsOf (a .count - (l .test + 1)) (drop (a .at + testWords * (l .test + 1)) (a .list .now)))) (p .put-test .ensures) ∙ e)
+    let e = put-turn (a .at) (a .count) (l .test) (a .list .now) (l .dst) (itemsWords (itemsOf (a .count) (drop (a .at) (a .list .now)))) (t .test-of .result) (n .loop-test .taken) (omega arith) (t .test-of .ensures) (l .inv .2) in (
+      omega arith,
+      p .put-test .kept .0 ∙ l .inv .1,
+      ap (λ d. take (testWords * (l .test + 1)) d ++ itemsWords (itemsOf (a .count - (l .test + 1)) (drop (a .at + testWords * (l .test + 1)) (a .list .now)))) (p .put-test .ensures) ∙ e,
+    )
 
 same-length : tie.Need-same-length Inv-loop μ-loop
 same-length c = c .before .loop .inv .1 ∙ sym (c .before .before .before .before .pre .one)

@@ -6,8 +6,6 @@ use native.Mathlib.Omega.{arith}
 use borrow.Author.Needs.{needs}
 use Rattle.slots.proofs.filter.put_words.Statement.{statement}
 use Rattle.slots.proofs.filter.put_words.Tie as tie
-use Rattle.slots.proofs.filter.put_words.Reads as reads
-use Rattle.slots.proofs.filter.put_words.Lts as lts
 
 mul-dst : tie.Need-mul-dst
 mul-dst c = search needs

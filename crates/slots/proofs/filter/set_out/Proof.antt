@@ -6,9 +6,6 @@ use mathlib.Core.Path.{_∙_}
 use borrow.Author.Needs.{needs}
 use Rattle.slots.proofs.filter.set_out.Statement.{statement}
 use Rattle.slots.proofs.filter.set_out.Tie as tie
-use Rattle.slots.proofs.filter.set_out.Reads as reads
-use Rattle.slots.proofs.filter.set_out.Lts as lts
-use Rattle.slots.proofs.filter.clear_from.Reads as clear-from-reads
 
 slice-write-dst : tie.Need-slice-write-dst
 slice-write-dst c = search needs

@@ -2,11 +2,8 @@
 -- Assumes nothing.
 use Rattle.lists.specs.Filters.{testOf}
 use borrow.Author.Tests.{ne-eqb}
-use borrow.Author.Needs.{needs}
 use Rattle.slots.proofs.filter.test_of.Statement.{statement}
 use Rattle.slots.proofs.filter.test_of.Tie as tie
-use Rattle.slots.proofs.filter.test_of.Reads as reads
-use Rattle.slots.proofs.filter.test_of.Lts as lts
 
 returns : tie.Need-returns
 unfolding testOf
