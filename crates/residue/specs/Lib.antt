@@ -1,3 +1,4 @@
 pub mod Tests
 pub mod Facts
 pub mod Residues
+pub mod Bits
