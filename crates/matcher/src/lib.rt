@@ -6,7 +6,7 @@ ghost use Rattle.residue.specs.Tests.{holds};
 ghost use Rattle.fields.specs.Header.{readingAt};
 ghost use Rattle.lists.specs.Filters.{testOf};
 ghost use Rattle.tables.specs.Tables.{recordWords, maxSlots};
-ghost use Rattle.matcher.specs.Walk.{shown, walkFrom};
+ghost use Rattle.matcher.specs.Walk.{shown, walkFrom, walk};
 
 use residue::Reading;
 
@@ -51,12 +51,12 @@ fn walk_from(present: u32, values: &[u32; 14], table: &[u32], states: u32, allow
         if allowance <= asked {
             return Answer::Stopped(words[7], words[8], asked);
         }
-        asked += 1;
         let Reading::Value(x) = fields::reading_at(present, values, field) else {
             s = words[6];
             if states <= s {
                 return Answer::Refused(13);
             }
+            asked += 1;
             continue;
         };
         if holds_word(kind, words[2], words[3], x) {
@@ -64,11 +64,34 @@ fn walk_from(present: u32, values: &[u32; 14], table: &[u32], states: u32, allow
             if states <= s {
                 return Answer::Refused(13);
             }
+            asked += 1;
             continue;
         }
         s = words[5];
         if states <= s {
             return Answer::Refused(13);
         }
+        asked += 1;
     }
+}
+
+// The answer for any frame, table and number of states. The number is held to the table's words by a product, which needs no division.
+pub fn classify(frame: &[u8], port: u8, table: &[u32], states: u32, allowance: u32) -> Answer
+    ensures { λ r. ⌜ shown r ≡ walk (now (frame .entry)) port (now (table .entry)) states allowance ⌝ }
+{
+    if 1522 < frame.len() {
+        return Answer::Refused(12);
+    }
+    if states == 0 {
+        return Answer::Refused(13);
+    }
+    if 4096 < states {
+        return Answer::Refused(13);
+    }
+    if table.len() < 9 * states as usize {
+        return Answer::Refused(13);
+    }
+    let mut values = [0u32; 14];
+    let present = fields::read_header(frame, port, &mut values);
+    walk_from(present, &values, table, states, allowance)
 }

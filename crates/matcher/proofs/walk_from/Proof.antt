@@ -1,17 +1,13 @@
-use borrow.Author.Needs.{needs}
+-- `matcher::walk_from` meets its contract. The loop's invariant: the walk from the record reached, with the questions left, answers the whole walk.
+-- A record that ends the walk answers for it; a way goes on to the next record with one question fewer. Assumes nothing.
 use Prim.Native.Nat.{_-_}
 use native.Mathlib.Nat.{sub-zero}
-use mathlib.Core.Path.{_≡_, refl, sym, _∙_}
-use native.Mathlib.Omega.{arith}
+use mathlib.Core.Path.{sym, _∙_}
+use borrow.Author.Needs.{needs}
 use Rattle.fields.specs.Header.{readingAt}
-use Rattle.residue.specs.declared.Reading.the-variants.{Absent, Value}
-use Rattle.matcher.proofs.Steps.{Walking, Asking, read, finished, broken, halted, asking, lost, moved, way-absent, way-holds, way-fails}
+use Rattle.matcher.proofs.Steps.{Walking, Asking, finished, broken, halted, asking, lost, moved, way-absent, way-holds, way-fails}
 use Rattle.matcher.proofs.walk_from.Statement.{statement}
 use Rattle.matcher.proofs.walk_from.Tie as tie
-use Rattle.matcher.proofs.walk_from.Reads as reads
-use Rattle.matcher.proofs.walk_from.Lts as lts
-use Rattle.fields.proofs.reading_at.Reads as reading-at-reads
-use Rattle.matcher.proofs.holds_word.Reads as holds-word-reads
 
 abbrev Inv-loop : tie.InvT-loop
 Inv-loop present values table states allowance s₀ asked₀ s asked =
@@ -20,18 +16,12 @@ Inv-loop present values table states allowance s₀ asked₀ s asked =
 abbrev μ-loop : tie.MeasureT-loop
 μ-loop present values table states allowance s₀ asked₀ s asked = allowance - asked
 
--- What holds of a record that may be asked, and of its field, at the places where the code has found it out.
-abbrev AskingAt : tie.At-loop Inv-loop μ-loop → Type 0
-AskingAt l =
-    Asking
-    (l .before .before .args .table .now)
-    (l .before .before .args .states)
-    (readingAt (l .before .before .args .present) (l .before .before .args .values .now))
-    (l .before .before .args .allowance)
-    (l .loop .asked)
-    (l .loop .s)
-
-asks : (c : tie.Else3 Inv-loop μ-loop) → AskingAt (c .before .before .before .before .before .before)
+-- A record that was checked, is not final and comes within the allowance may be asked.
+asks :
+    (c : tie.Else3 Inv-loop μ-loop) →
+    let l = c .before .before .before .before .before .before in
+    let a = l .before .before .args in
+    Asking (a .table .now) (a .states) (readingAt (a .present) (a .values .now)) (a .allowance) (l .loop .asked) (l .loop .s)
 asks c =
     asking (c .before .before .before .before .before .before .loop .inv) (c .before .before .before .if1 .left)
     (c .before .if2 .left)
@@ -39,8 +29,8 @@ asks c =
 
 loop-holds : tie.Need-loop-holds Inv-loop μ-loop
 loop-holds c =
-    let zero-left = sub-zero (c .before .args .allowance) in
-    record { inside = search needs; within = search needs; rest = rw zero-left }
+    let none-asked = sub-zero (c .before .args .allowance) in
+    record { inside = search needs; within = search needs; rest = rw none-asked }
 
 cast-b : tie.Need-cast-b Inv-loop μ-loop
 cast-b c = search needs
@@ -93,9 +83,6 @@ returns-3 : tie.Need-returns-3 Inv-loop μ-loop
 returns-3 c =
     halted (c .before .before .before .before .before .before .before .before .loop .inv) (c .before .before .before .before .before .if1 .left) (c .before .before .before .if2 .left) (c .before .before .if3 .taken)
 
-add-asked : tie.Need-add-asked Inv-loop μ-loop
-add-asked c = search needs
-
 reading-at-requires : tie.Need-reading-at-requires Inv-loop μ-loop
 reading-at-requires c κs = search needs
 
@@ -111,6 +98,9 @@ shared-slice-read-s c = search needs
 returns-4 : tie.Need-returns-4 Inv-loop μ-loop
 returns-4 c =
     lost (asks (c .before .before .before .before .before)) _ (way-absent _ _ _ (sym (c .before .before .before .before .reading-at .ensures) ∙ c .before .before .enum-told .given .1)) (c .if4 .taken)
+
+add-asked : tie.Need-add-asked Inv-loop μ-loop
+add-asked c = search needs
 
 loop-less : tie.Need-loop-less Inv-loop μ-loop
 loop-less c = search needs
@@ -135,6 +125,9 @@ returns-5 : tie.Need-returns-5 Inv-loop μ-loop
 returns-5 c =
     lost (asks (c .before .before .before .before .before .before .before .before .before .before)) _ (way-holds _ _ _ _ (sym (c .before .before .before .before .before .before .before .before .before .reading-at .ensures) ∙ c .before .before .before .before .before .before .before .x .given .1) (sym (c .before .before .before .holds-word .ensures) ∙ c .before .before .if5 .taken)) (c .if6 .taken)
 
+add-asked-2 : tie.Need-add-asked-2 Inv-loop μ-loop
+add-asked-2 c = search needs
+
 loop-less-2 : tie.Need-loop-less-2 Inv-loop μ-loop
 loop-less-2 c = search needs
 
@@ -148,6 +141,9 @@ shared-slice-read-s-3 c = search needs
 returns-6 : tie.Need-returns-6 Inv-loop μ-loop
 returns-6 c =
     lost (asks (c .before .before .before .before .before .before .before .before .before .before)) _ (way-fails _ _ _ _ (sym (c .before .before .before .before .before .before .before .before .before .reading-at .ensures) ∙ c .before .before .before .before .before .before .before .x .given .1) (sym (c .before .before .before .holds-word .ensures) ∙ c .before .before .if5 .left)) (c .if7 .taken)
+
+add-asked-3 : tie.Need-add-asked-3 Inv-loop μ-loop
+add-asked-3 c = search needs
 
 loop-less-3 : tie.Need-loop-less-3 Inv-loop μ-loop
 loop-less-3 c = search needs
@@ -179,12 +175,12 @@ walk-from-spec =
     shared-slice-read-t29
     shared-slice-read-t31
     returns-3
-    add-asked
     reading-at-requires
     enum-known-x
     enum-told
     shared-slice-read-s
     returns-4
+    add-asked
     loop-less
     loop-again
     shared-slice-read-holds-word
@@ -192,9 +188,11 @@ walk-from-spec =
     holds-word-requires
     shared-slice-read-s-2
     returns-5
+    add-asked-2
     loop-less-2
     loop-again-2
     shared-slice-read-s-3
     returns-6
+    add-asked-3
     loop-less-3
     loop-again-3)
