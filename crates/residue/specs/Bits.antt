@@ -5,7 +5,7 @@ use native.Mathlib.Nat.{pow-suc, mod-eq-of-lt}
 use native.Mathlib.Omega.{arith}
 use lib.Arith.{bin-ind, lt-one}
 use lib.Bits.{bitAnd, and-step, and-shr, and-comm, and-self, and-le-l, and-le-r, and-mask}
-use lib.Pow.{lt-of-le-ones}
+use lib.Pow.{pow-pos}
 use Rattle.residue.specs.Residues.{outside}
 
 -- ---- halves and lowest digits
@@ -73,9 +73,9 @@ outside-twice : (a k : ℕ) → outside (bitAnd a k) k ≡ 0
 unfolding outside
 outside-twice a k = omega (arith, and-twice a k)
 
--- What is taken away is gone.
-pub outside-and : (m k : ℕ) → bitAnd (outside m k) k ≡ 0
-outside-and m k = and-comm (outside m k) k ∙ and-outside k m k ∙ ap (λ (x : ℕ). outside x k) (and-comm k m) ∙ outside-twice m k
+-- The mask of a reduced test lies outside the known bits.
+pub reduced-outside : (m k : ℕ) → bitAnd (outside m k) k ≡ 0
+reduced-outside m k = and-comm (outside m k) k ∙ and-outside k m k ∙ ap (λ (x : ℕ). outside x k) (and-comm k m) ∙ outside-twice m k
 
 pub outside-in : (m k : ℕ) → bitAnd (outside m k) m ≡ outside m k
 outside-in m k = and-comm (outside m k) m ∙ and-outside m m k ∙ ap (λ (x : ℕ). outside x k) (and-self m)
@@ -90,19 +90,19 @@ and-complement (suc k) a b c h e =
     let ih = and-complement k (a / 2) (b / 2) (c / 2) (omega arith) (omega arith) in
     omega (arith, ih, and-step a b, and-step a c)
 
-module _ (k : ℕ) where
-  -- The code's m & !b.
-  pub and-not : (m b : ℕ) → m ≤ 2 ^ k - 1 → b ≤ 2 ^ k - 1 → bitAnd m ((2 ^ k - 1) - b) ≡ outside m b
-  unfolding outside
-  and-not m b hm hb =
-      let p = lt-of-le-ones k hm in
-      omega (arith, and-complement k m b ((2 ^ k - 1) - b) p (omega arith))
+module _ (k full : ℕ) (e : full ≡ 2 ^ k - 1) where
+  below-pow : {x : ℕ} → x ≤ full → x < 2 ^ k
+  below-pow h = omega (arith, e, pow-pos k)
 
-  pub and-full : (x : ℕ) → x ≤ 2 ^ k - 1 → bitAnd x (2 ^ k - 1) ≡ x
-  and-full x h = and-mask x k ∙ mod-eq-of-lt (lt-of-le-ones k h)
+  -- The code's m & !b.
+  pub and-not : (m b : ℕ) → m ≤ full → b ≤ full → bitAnd m (full - b) ≡ outside m b
+  unfolding outside
+  and-not m b hm hb = omega (arith, and-complement k m b (full - b) (below-pow hm) (omega (arith, e, pow-pos k)))
+
+  pub and-full : (x : ℕ) → x ≤ full → bitAnd x full ≡ x
+  and-full x h = ap (bitAnd x) e ∙ and-mask x k ∙ mod-eq-of-lt (below-pow h)
 
   -- A number lies no further above its bits under a mask than the mask leaves room.
-  pub le-and-add : (x m : ℕ) → x ≤ 2 ^ k - 1 → m ≤ 2 ^ k - 1 → x ≤ bitAnd x m + ((2 ^ k - 1) - m)
+  pub le-and-add : (x m : ℕ) → x ≤ full → m ≤ full → x ≤ bitAnd x m + (full - m)
   le-and-add x m hx hm =
-      let p = lt-of-le-ones k hx in
-      omega (arith, and-complement k x m ((2 ^ k - 1) - m) p (omega arith), and-le-r x ((2 ^ k - 1) - m))
+      omega (arith, and-complement k x m (full - m) (below-pow hx) (omega (arith, e, pow-pos k)), and-le-r x (full - m))
