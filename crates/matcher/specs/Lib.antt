@@ -1,3 +1,4 @@
 pub mod Walk
+pub mod Records
 pub mod Laws
 pub mod Cases

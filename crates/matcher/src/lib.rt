@@ -7,7 +7,7 @@ ghost use Rattle.fields.specs.Header.{readingAt};
 ghost use Rattle.lists.specs.Filters.{testOf};
 ghost use Rattle.tables.specs.Tables.{recordWords, maxSlots};
 ghost use Rattle.matcher.specs.Walk.{shown, walkFrom, walk};
-
+ghost use Rattle.matcher.specs.Records.{endsAt, endAt};
 use residue::Reading;
 
 // The end of a walk: at a final record, or with the allowance used, each with the sure set, the out set and the questions asked; or refused, with its number.
@@ -29,6 +29,28 @@ fn holds_word(kind: u32, mask: u32, value: u32, x: u32) -> bool
     }
 }
 
+// Whether the walk goes no further than a record. Its words are tested at once, so that a question that goes on meets one branch.
+fn ends(words: &[u32], asked: u32, allowance: u32) -> bool
+    requires { ⌜ recordWords ≤ length (now words) ⌝ }
+    ensures { λ r. ⌜ r ≡ endsAt (now (words .entry)) asked allowance ⌝ }
+{
+    (words[0] == 0) | (4 < words[0]) | (13 < words[1]) | (allowance <= asked)
+}
+
+// The answer at such a record. Damage comes before the allowance; the field of a final record is not looked at.
+fn end(words: &[u32], asked: u32) -> Answer
+    requires { ⌜ recordWords ≤ length (now words) ⌝ }
+    ensures { λ r. ⌜ shown r ≡ endAt (now (words .entry)) asked ⌝ }
+{
+    if words[0] == 0 {
+        return Answer::Done(words[7], words[8], asked);
+    }
+    if (4 < words[0]) | (13 < words[1]) {
+        return Answer::Refused(13);
+    }
+    Answer::Stopped(words[7], words[8], asked)
+}
+
 // The walk from record 0 on, over a header that was read. Each way has its own load and its own test:
 // one `next` for all ways would make each record wait for the one before it.
 fn walk_from(present: u32, values: &[u32; 14], table: &[u32], states: u32, allowance: u32) -> Answer
@@ -40,18 +62,10 @@ fn walk_from(present: u32, values: &[u32; 14], table: &[u32], states: u32, allow
     loop {
         let b = 9 * s as usize;
         let words = &table[b..b + 9];
-        let kind = words[0];
-        if kind == 0 {
-            return Answer::Done(words[7], words[8], asked);
+        if ends(words, asked, allowance) {
+            return end(words, asked);
         }
-        let field = words[1];
-        if (4 < kind) | (13 < field) {
-            return Answer::Refused(13);
-        }
-        if allowance <= asked {
-            return Answer::Stopped(words[7], words[8], asked);
-        }
-        let Reading::Value(x) = fields::reading_at(present, values, field) else {
+        let Reading::Value(x) = fields::reading_at(present, values, words[1]) else {
             s = words[6];
             if states <= s {
                 return Answer::Refused(13);
@@ -59,7 +73,7 @@ fn walk_from(present: u32, values: &[u32; 14], table: &[u32], states: u32, allow
             asked += 1;
             continue;
         };
-        if holds_word(kind, words[2], words[3], x) {
+        if holds_word(words[0], words[2], words[3], x) {
             s = words[4];
             if states <= s {
                 return Answer::Refused(13);

@@ -3,7 +3,6 @@
 ghost use mathlib.Core.Path.{_≡_};
 ghost use Prim.Native.Nat.{_<_, _≤_};
 ghost use lib.ListN.{length};
-
 use libc::STDOUT_FILENO;
 use matcher::Answer;
 
@@ -54,16 +53,96 @@ fn echo_table() -> [u32; 90]
     ensures { λ r. ⌜ length r ≡ 90 ⌝ }
 {
     [
-        1, 11, 255, 8, 1, 4, 8, 0, 0, // 0
-        1, 4, 255, 1, 2, 3, 3, 1, 2, // 1
-        0, 0, 0, 0, 0, 0, 0, 5, 2, // 2
-        0, 0, 0, 0, 0, 0, 0, 1, 6, // 3
-        1, 11, 255, 0, 5, 8, 8, 0, 1, // 4
-        1, 4, 255, 1, 6, 7, 7, 0, 1, // 5
-        0, 0, 0, 0, 0, 0, 0, 6, 1, // 6
-        0, 0, 0, 0, 0, 0, 0, 0, 7, // 7
-        1, 4, 255, 1, 9, 7, 7, 0, 3, // 8
-        0, 0, 0, 0, 0, 0, 0, 4, 3, // 9
+        1,
+        11,
+        255,
+        8,
+        1,
+        4,
+        8,
+        0,
+        0, // 0
+        1,
+        4,
+        255,
+        1,
+        2,
+        3,
+        3,
+        1,
+        2, // 1
+        0,
+        0,
+        0,
+        0,
+        0,
+        0,
+        0,
+        5,
+        2, // 2
+        0,
+        0,
+        0,
+        0,
+        0,
+        0,
+        0,
+        1,
+        6, // 3
+        1,
+        11,
+        255,
+        0,
+        5,
+        8,
+        8,
+        0,
+        1, // 4
+        1,
+        4,
+        255,
+        1,
+        6,
+        7,
+        7,
+        0,
+        1, // 5
+        0,
+        0,
+        0,
+        0,
+        0,
+        0,
+        0,
+        6,
+        1, // 6
+        0,
+        0,
+        0,
+        0,
+        0,
+        0,
+        0,
+        0,
+        7, // 7
+        1,
+        4,
+        255,
+        1,
+        9,
+        7,
+        7,
+        0,
+        3, // 8
+        0,
+        0,
+        0,
+        0,
+        0,
+        0,
+        0,
+        4,
+        3, // 9
     ]
 }
 
@@ -128,13 +207,7 @@ fn damages(frame: &[u8]) {
     damaged_at(b"next 10 in record 0, allowance 1", frame, 4, 10, 1);
     damaged_at(b"next 10 in record 1, allowance 2", frame, 13, 10, 2);
     damaged_at(b"next 10 on a way not taken", frame, 5, 10, 2);
-    damaged_at(
-        b"record 0 leads to itself, allowance 7",
-        frame,
-        4,
-        0,
-        7,
-    );
+    damaged_at(b"record 0 leads to itself, allowance 7", frame, 4, 0, 7);
 }
 
 // Frames without fields, and at the greatest length.
