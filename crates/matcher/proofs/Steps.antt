@@ -67,7 +67,7 @@ module _ (t : List ℕ) (m : ℕ) (r : ℕ → Reading) (k n : ℕ) where
         read-word t n 0 (omega arith),
         read-word t n 1 (omega arith),
         read-word t n 7 (omega arith),
-        read-word t n 8 (omega arith)
+        read-word t n 8 (omega arith),
       )
 
   at-rest :
@@ -124,8 +124,8 @@ module _ {t : List ℕ} {m : ℕ} {r : ℕ → Reading} {a k n : ℕ} where
   unfolding damaged
   asking w e =
       let free =
-        clear (eqb (wordOf t n kindAt) 0) (ltb 4 (wordOf t n kindAt)) (ltb 13 (wordOf t n fieldAt)) (leb a k)
-        (sym (ends-words t n k a) ∙ e) in
+      clear (eqb (wordOf t n kindAt) 0) (ltb 4 (wordOf t n kindAt)) (ltb 13 (wordOf t n fieldAt)) (leb a k)
+      (sym (ends-words t n k a) ∙ e) in
       let below : k < a = leb-false a k (free .2) in
       let more : a - k ≡ suc (a - (k + 1)) = omega arith in
       let whole : walkFrom t m r (suc (a - (k + 1))) k n ≡ walkFrom t m r a 0 0 = rw more at (w .rest) in

@@ -29,12 +29,22 @@ fn holds_word(kind: u32, mask: u32, value: u32, x: u32) -> bool
     }
 }
 
-// Whether the walk goes no further than a record. Its words are tested at once, so that a question that goes on meets one branch.
+// Whether the walk goes no further than a record. Returns in a row, no sum of tests: each is a branch that is seldom taken.
 fn ends(words: &[u32], asked: u32, allowance: u32) -> bool
     requires { ⌜ recordWords ≤ length (now words) ⌝ }
     ensures { λ r. ⌜ r ≡ endsAt (now (words .entry)) asked allowance ⌝ }
 {
-    (words[0] == 0) | (4 < words[0]) | (13 < words[1]) | (allowance <= asked)
+    let kind = words[0];
+    if kind == 0 {
+        return true;
+    }
+    if 4 < kind {
+        return true;
+    }
+    if 13 < words[1] {
+        return true;
+    }
+    allowance <= asked
 }
 
 // The answer at such a record. Damage comes before the allowance; the field of a final record is not looked at.
