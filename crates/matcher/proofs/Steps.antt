@@ -8,13 +8,14 @@ use native.Mathlib.Omega.{arith}
 use mathlib.Core.Path.{_≡_, refl, sym, ap, _∙_}
 use mathlib.Core.Bool.{Bool, true, false, cond, not, _&&_, _||_, or-true, or-false, false≢true}
 use mathlib.Core.List.{List}
-use borrow.Author.Tests.{lt-ltb, le-ltb, leb-true, leb-false}
+use borrow.Author.Tests.{lt-ltb, le-ltb, ltb-false, leb-true, leb-false}
 use lib.Dec.{ltb, leb, eqb}
 use lib.ListN.{getD, take, drop}
 use lib.Seq.{getD-take, getD-drop}
 use Rattle.residue.specs.Tests.{holds}
 use Rattle.residue.specs.declared.Reading.{Reading}
 use Rattle.residue.specs.declared.Reading.the-variants.{Absent, Value}
+use Rattle.fields.specs.Widths.{fieldCount}
 use Rattle.lists.specs.Filters.{testOf}
 use Rattle.tables.specs.Tables.{recordWords, wordOf, kindAt, fieldAt}
 use Rattle.matcher.specs.Walk.{Shown, refused, damaged, nextBy, nextOf, arrive, onward, walkFrom}
@@ -44,12 +45,15 @@ covered false true g e = refl
 covered false false true e = refl
 covered false false false e = e
 
-clear : (z h g l : Bool) → (z || h || g || l) ≡ false → (z ≡ false) × ((h || (not z && g)) ≡ false) × (l ≡ false)
+clear :
+    (z h g l : Bool) →
+    (z || h || g || l) ≡ false →
+    (z ≡ false) × ((h || (not z && g)) ≡ false) × (g ≡ false) × (l ≡ false)
 clear true h g l e = absurd (false≢true (sym e))
 clear false true g l e = absurd (false≢true (sym e))
 clear false false true l e = absurd (false≢true (sym e))
 clear false false false true e = absurd (false≢true (sym e))
-clear false false false false e = (refl, refl, refl)
+clear false false false false e = (refl, refl, refl, refl)
 
 -- Where a record ends the walk, what would come after it does not matter.
 settles : (d f : Bool) → (d || f) ≡ true → (end on on' : Shown) → arrive d f end on ≡ arrive d f end on'
@@ -78,7 +82,7 @@ module _ (t : List ℕ) (m : ℕ) (r : ℕ → Reading) (k n : ℕ) where
   at-rest zero e = refl
   at-rest (suc b) e = settles (damaged t n) (eqb (wordOf t n kindAt) 0) e _ _ _
 
-  at-question :
+  pub at-question :
       (b : ℕ) →
       damaged t n ≡ false →
       eqb (wordOf t n kindAt) 0 ≡ false →
@@ -115,6 +119,7 @@ module _ {t : List ℕ} {m : ℕ} {r : ℕ → Reading} {a k n : ℕ} (w : Walki
 
 pub record Asking (t : List ℕ) (m : ℕ) (r : ℕ → Reading) (a k n : ℕ) : Type 0 where
   pub left : k < a
+  pub known : read t n fieldAt < fieldCount
   pub rest :
       onward (ltb (nextOf t r n) m) (walkFrom t m r (a - (k + 1)) (k + 1) (nextOf t r n)) ≡
       walkFrom t m r a 0 0
@@ -126,10 +131,15 @@ module _ {t : List ℕ} {m : ℕ} {r : ℕ → Reading} {a k n : ℕ} where
       let free =
       clear (eqb (wordOf t n kindAt) 0) (ltb 4 (wordOf t n kindAt)) (ltb 13 (wordOf t n fieldAt)) (leb a k)
       (sym (ends-words t n k a) ∙ e) in
-      let below : k < a = leb-false a k (free .2) in
+      let below : k < a = leb-false a k (free .3) in
       let more : a - k ≡ suc (a - (k + 1)) = omega arith in
       let whole : walkFrom t m r (suc (a - (k + 1))) k n ≡ walkFrom t m r a 0 0 = rw more at (w .rest) in
-      record { left = below; rest = sym (at-question t m r k n (a - (k + 1)) (free .1) (free .0)) ∙ whole }
+      let low : wordOf t n fieldAt ≤ 13 = ltb-false 13 (wordOf t n fieldAt) (free .2) in
+      record {
+        left = below;
+        known = omega (arith, read-word t n fieldAt (omega arith));
+        rest = sym (at-question t m r k n (a - (k + 1)) (free .1) (free .0)) ∙ whole;
+      }
 
   -- The way leads to no record, or to the next.
   pub lost : Asking t m r a k n → (next : ℕ) → nextOf t r n ≡ next → m ≤ next → refused 13 ≡ walkFrom t m r a 0 0

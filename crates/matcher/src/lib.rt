@@ -8,6 +8,8 @@ ghost use Rattle.lists.specs.Filters.{testOf};
 ghost use Rattle.tables.specs.Tables.{recordWords, maxSlots};
 ghost use Rattle.matcher.specs.Walk.{shown, walkFrom, walk};
 ghost use Rattle.matcher.specs.Records.{endsAt, endAt};
+ghost use Rattle.matcher.specs.Chains.{linksAt, Chained};
+ghost use Rattle.fields.specs.Widths.{fieldCount};
 use residue::Reading;
 
 // The end of a walk: at a final record, or with the allowance used, each with the sure set, the out set and the questions asked; or refused, with its number.
@@ -61,10 +63,48 @@ fn end(words: &[u32], asked: u32) -> Answer
     Answer::Stopped(words[7], words[8], asked)
 }
 
+// Whether a record asks the field by an equality that misses x and leads to record next.
+fn links(words: &[u32], field: u32, x: u32, next: u32, states: u32) -> bool
+    requires { ⌜ recordWords ≤ length (now words) ⌝ }
+    ensures { λ r. ⌜ r ≡ linksAt (now (words .entry)) field x next states ⌝ }
+{
+    if words[0] != 1 {
+        return false;
+    }
+    if words[1] != field {
+        return false;
+    }
+    if x & words[2] == words[3] {
+        return false;
+    }
+    if words[5] != next {
+        return false;
+    }
+    next < states
+}
+
+// How many records from s on, each two further than the one before, are such links. A table that asks one field for many values
+// is a chain of them; a counter goes on without waiting for the next number of each.
+fn chain(table: &[u32], s: u32, field: u32, x: u32, states: u32, left: u32) -> u32
+    requires { ⌜ s < states ⌝ ∗ ⌜ states ≤ maxSlots ⌝ ∗ ⌜ recordWords * states ≤ length (now table) ⌝ ∗ ⌜ field < fieldCount ⌝ }
+    ensures { λ p. ⌜ Chained (now (table .entry)) states field x left s p ⌝ }
+{
+    let mut p: u32 = 0;
+    while p < left {
+        let n = s + 2 * p;
+        let b = 9 * n as usize;
+        if !links(&table[b..b + 9], field, x, n + 2, states) {
+            return p;
+        }
+        p += 1;
+    }
+    p
+}
+
 // The walk from record 0 on, over a header that was read. Each way has its own load and its own test:
 // one `next` for all ways would make each record wait for the one before it.
 fn walk_from(present: u32, values: &[u32; 14], table: &[u32], states: u32, allowance: u32) -> Answer
-    requires { ⌜ 0 < states ⌝ ∗ ⌜ recordWords * states ≤ length (now table) ⌝ }
+    requires { ⌜ 0 < states ⌝ ∗ ⌜ states ≤ maxSlots ⌝ ∗ ⌜ recordWords * states ≤ length (now table) ⌝ }
     ensures { λ r. ⌜ shown r ≡ walkFrom (now (table .entry)) states (readingAt present (now (values .entry))) allowance 0 0 ⌝ }
 {
     let mut s: u32 = 0;
@@ -96,6 +136,9 @@ fn walk_from(present: u32, values: &[u32; 14], table: &[u32], states: u32, allow
             return Answer::Refused(13);
         }
         asked += 1;
+        let passed = chain(table, s, words[1], x, states, allowance - asked);
+        s += 2 * passed;
+        asked += passed;
     }
 }
 

@@ -1,11 +1,12 @@
 -- `matcher::walk_from` meets its contract. The loop's invariant: the walk from the record reached, with the questions left, answers the whole walk.
--- A record that ends the walk answers for it; a way goes on to the next record with one question fewer. Assumes nothing.
+-- A record that ends the walk answers for it; a way goes on to the next record with one question fewer, a chain with one fewer for each link. Assumes nothing.
 use Prim.Native.Nat.{_-_}
 use native.Mathlib.Nat.{sub-zero}
 use native.Mathlib.Omega.{arith}
 use mathlib.Core.Path.{sym, _∙_}
 use borrow.Author.Needs.{needs}
 use Rattle.fields.specs.Header.{readingAt}
+use Rattle.matcher.proofs.Linked.{walked-on}
 use Rattle.matcher.proofs.Steps.{Walking, Asking, ended, asking, lost, moved, way-absent, way-holds, way-fails}
 use Rattle.matcher.proofs.walk_from.Statement.{statement}
 use Rattle.matcher.proofs.walk_from.Tie as tie
@@ -132,13 +133,37 @@ add-asked-3 : tie.Need-add-asked-3 Inv-loop μ-loop
 add-asked-3 c =
     omega (arith, asks (c .before .before .before .before .before .before .before .before .before .before .before .before))
 
+shared-slice-read-chain : tie.Need-shared-slice-read-chain Inv-loop μ-loop
+shared-slice-read-chain c = search needs
+
+sub-chain : tie.Need-sub-chain Inv-loop μ-loop
+sub-chain c =
+    omega (arith, asks (c .before .before .before .before .before .before .before .before .before .before .before .before .before))
+
+chain-requires : tie.Need-chain-requires Inv-loop μ-loop
+chain-requires c κs =
+    let a = c .before .before .before .before .before .before .before .before .before .before .before .before .before .before .before .before .before .before .pre in
+    (c .before .if5 .left, (a .1 .0, (a .1 .1, asks (c .before .before .before .before .before .before .before .before .before .before .before .before .before) .known)))
+
+mul-s : tie.Need-mul-s Inv-loop μ-loop
+mul-s c =
+    omega (arith, c .chain .ensures, c .before .before .before .before .before .before .before .before .before .before .before .before .before .before .before .before .before .before .before .pre)
+
+add-s : tie.Need-add-s Inv-loop μ-loop
+add-s c =
+    omega (arith, c .chain .ensures, c .before .before .before .before .before .before .before .before .before .before .before .before .before .before .before .before .before .before .before .pre)
+
+add-asked-4 : tie.Need-add-asked-4 Inv-loop μ-loop
+add-asked-4 c =
+    omega (arith, asks (c .before .before .before .before .before .before .before .before .before .before .before .before .before .before), c .chain .ensures)
+
 loop-less-3 : tie.Need-loop-less-3 Inv-loop μ-loop
 loop-less-3 c =
-    omega (arith, asks (c .before .before .before .before .before .before .before .before .before .before .before .before))
+    omega (arith, asks (c .before .before .before .before .before .before .before .before .before .before .before .before .before .before), c .chain .ensures)
 
 loop-again-3 : tie.Need-loop-again-3 Inv-loop μ-loop
 loop-again-3 c =
-    moved (asks (c .before .before .before .before .before .before .before .before .before .before .before .before)) _ (way-fails _ _ _ _ (sym (c .before .before .before .before .before .before .before .before .before .before .reading-at .ensures) ∙ c .before .before .before .before .before .before .before .before .x .given .1) (sym (c .before .before .before .holds-word .ensures) ∙ c .before .before .if3 .left)) (c .if5 .left)
+    walked-on (moved (asks (c .before .before .before .before .before .before .before .before .before .before .before .before .before .before)) _ (way-fails _ _ _ _ (sym (c .before .before .before .before .before .before .before .before .before .before .before .before .reading-at .ensures) ∙ c .before .before .before .before .before .before .before .before .before .before .x .given .1) (sym (c .before .before .before .before .before .holds-word .ensures) ∙ c .before .before .before .before .if3 .left)) (c .before .before .if5 .left)) (sym (c .before .before .before .before .before .before .before .before .before .before .before .before .reading-at .ensures) ∙ c .before .before .before .before .before .before .before .before .before .before .x .given .1) (c .chain .ensures)
 
 pub walk-from-spec : {M : Type 1} → statement M
 walk-from-spec =
@@ -178,5 +203,11 @@ walk-from-spec =
     shared-slice-read-s-3
     returns-4
     add-asked-3
+    shared-slice-read-chain
+    sub-chain
+    chain-requires
+    mul-s
+    add-s
+    add-asked-4
     loop-less-3
     loop-again-3)
