@@ -40,7 +40,7 @@ unfolding linksAt
 link t n f x next m e =
     let hit = eqb (bitAnd x (read t n 2)) (read t n 3) in
     let all =
-      all-true (eqb (read t n 0) 1) (eqb (read t n 1) f) (not hit) (eqb (read t n 5) next) (ltb next m) e in
+    all-true (eqb (read t n 0) 1) (eqb (read t n 1) f) (not hit) (eqb (read t n 5) next) (ltb next m) e in
     record {
       kind = eqb-true (read t n 0) 1 (all .0);
       field = eqb-true (read t n 1) f (all .1);
@@ -85,7 +85,7 @@ module _ {t : List ℕ} {m f x l s : ℕ} where
       record {
         within = omega arith;
         inside = omega arith;
-        same = λ r e k. rw (sub-zero l, add-zero k, add-zero s);
+        same = λ r e b k h'. rw (sub-zero b, add-zero k, add-zero s);
       }
 
   pub chained-more :
@@ -97,27 +97,31 @@ module _ {t : List ℕ} {m f x l s : ℕ} where
       Chained t m f x l s (p + 1)
   chained-more {p} small c h e =
       let k = link t (s + 2 * p) f x (s + 2 * p + 2) m e in
-      let more : l - p ≡ suc (l - (p + 1)) = omega arith in
       let on : s + 2 * (p + 1) ≡ s + 2 * p + 2 = omega arith in
       record {
         within = omega arith;
         inside = omega (arith, k .inside);
         same =
-            λ r v q.
+            λ r v b q (enough : p + 1 ≤ b).
+            let more : b - p ≡ suc (b - (p + 1)) = omega arith in
+            let fits : p ≤ b = omega arith in
             let counted : q + (p + 1) ≡ q + p + 1 = omega arith in
-            let first : walkFrom t m r l q s ≡ walkFrom t m r (suc (l - (p + 1))) (q + p) (s + 2 * p) =
-              rw more at (c .same r v q) in
-            rw (on, counted) (first ∙ link-step small k r v (l - (p + 1)) (q + p));
+            let first : walkFrom t m r b q s ≡ walkFrom t m r (suc (b - (p + 1))) (q + p) (s + 2 * p) =
+            rw more at (c .same r v b q fits) in
+            rw (on, counted) (first ∙ link-step small k r v (b - (p + 1)) (q + p));
       }
 
 -- A walk goes on behind the chain.
 pub walked-on :
-    {t : List ℕ} {m : ℕ} {r : ℕ → Reading} {a k n f x p : ℕ} →
+    {t : List ℕ} {m : ℕ} {r : ℕ → Reading} {a k n f x l p : ℕ} →
     Walking t m r a k n →
     r f ≡ Value x →
-    Chained t m f x (a - k) n p →
+    l ≤ a - k →
+    Chained t m f x l n p →
     Walking t m r a (k + p) (n + 2 * p)
-walked-on {t} {m} {r} {a} {k} {n} {f} {x} {p} w v c =
+walked-on {t} {m} {r} {a} {k} {n} {f} {x} {l} {p} w v most c =
+    let enough : p ≤ a - k = omega (arith, c .within) in
     let left : a - k - p ≡ a - (k + p) = omega arith in
-    let same : walkFrom t m r (a - k) k n ≡ walkFrom t m r (a - (k + p)) (k + p) (n + 2 * p) = rw left at (c .same r v k) in
-    record { inside = c .inside; within = omega (arith, w .within, c .within); rest = sym same ∙ w .rest }
+    let same : walkFrom t m r (a - k) k n ≡ walkFrom t m r (a - (k + p)) (k + p) (n + 2 * p) =
+    rw left at (c .same r v (a - k) k enough) in
+    record { inside = c .inside; within = omega (arith, w .within); rest = sym same ∙ w .rest }

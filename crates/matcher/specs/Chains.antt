@@ -1,6 +1,6 @@
 -- Equalities on one field in a row, each failing to the record two further on: the shape of a table for many values of one field.
 --   linksAt w f x n m       a record with the words w asks the field f by an equality, which misses x, and fails to record n, of m states
---   Chained t m f x l s p   where field f reads x, the walk from record s with l questions left passes p such records
+--   Chained t m f x l s p   where field f reads x, the walk from record s passes p such records, at most l, with a question each
 use Prim.Native.Nat.{ℕ, _+_, _-_, _*_, _≤_, _<_}
 use mathlib.Core.Path.{_≡_}
 use mathlib.Core.Bool.{Bool, not, _&&_}
@@ -27,5 +27,6 @@ pub record Chained (t : List ℕ) (m f x l s p : ℕ) : Type 0 where
   pub same :
       (r : ℕ → Reading) →
       r f ≡ Value x →
-      (k : ℕ) →
-      walkFrom t m r l k s ≡ walkFrom t m r (l - p) (k + p) (s + 2 * p)
+      (b k : ℕ) →
+      p ≤ b →
+      walkFrom t m r b k s ≡ walkFrom t m r (b - p) (k + p) (s + 2 * p)

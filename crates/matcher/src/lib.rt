@@ -101,6 +101,14 @@ fn chain(table: &[u32], s: u32, field: u32, x: u32, states: u32, left: u32) -> u
     p
 }
 
+// How many links to look for behind record s, which led to next: none unless it was one itself, as in most tables.
+fn room(s: u32, next: u32, left: u32) -> u32
+    requires { ⌜ s < maxSlots ⌝ }
+    ensures { λ r. ⌜ r ≤ left ⌝ }
+{
+    if next == s + 2 { left } else { 0 }
+}
+
 // The walk from record 0 on, over a header that was read. Each way has its own load and its own test:
 // one `next` for all ways would make each record wait for the one before it.
 fn walk_from(present: u32, values: &[u32; 14], table: &[u32], states: u32, allowance: u32) -> Answer
@@ -131,13 +139,14 @@ fn walk_from(present: u32, values: &[u32; 14], table: &[u32], states: u32, allow
             asked += 1;
             continue;
         }
-        s = words[5];
-        if states <= s {
+        let next = words[5];
+        if states <= next {
             return Answer::Refused(13);
         }
         asked += 1;
-        let passed = chain(table, s, words[1], x, states, allowance - asked);
-        s += 2 * passed;
+        let most = room(s, next, allowance - asked);
+        let passed = chain(table, next, words[1], x, states, most);
+        s = next + 2 * passed;
         asked += passed;
     }
 }

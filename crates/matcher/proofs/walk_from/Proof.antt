@@ -122,8 +122,8 @@ loop-again-2 : tie.Need-loop-again-2 Inv-loop μ-loop
 loop-again-2 c =
     moved (asks (c .before .before .before .before .before .before .before .before .before .before .before .before)) _ (way-holds _ _ _ _ (sym (c .before .before .before .before .before .before .before .before .before .before .reading-at .ensures) ∙ c .before .before .before .before .before .before .before .before .x .given .1) (sym (c .before .before .before .holds-word .ensures) ∙ c .before .before .if3 .taken)) (c .if4 .left)
 
-shared-slice-read-s-3 : tie.Need-shared-slice-read-s-3 Inv-loop μ-loop
-shared-slice-read-s-3 c = search needs
+shared-slice-read-next : tie.Need-shared-slice-read-next Inv-loop μ-loop
+shared-slice-read-next c = search needs
 
 returns-4 : tie.Need-returns-4 Inv-loop μ-loop
 returns-4 c =
@@ -133,37 +133,44 @@ add-asked-3 : tie.Need-add-asked-3 Inv-loop μ-loop
 add-asked-3 c =
     omega (arith, asks (c .before .before .before .before .before .before .before .before .before .before .before .before))
 
+sub-room : tie.Need-sub-room Inv-loop μ-loop
+sub-room c =
+    omega (arith, asks (c .before .before .before .before .before .before .before .before .before .before .before .before))
+
+room-requires : tie.Need-room-requires Inv-loop μ-loop
+room-requires c κs =
+    omega (arith, c .before .before .before .before .before .before .before .before .before .before .before .before .before .before .before .loop .inv, c .before .before .before .before .before .before .before .before .before .before .before .before .before .before .before .before .before .pre)
+
 shared-slice-read-chain : tie.Need-shared-slice-read-chain Inv-loop μ-loop
 shared-slice-read-chain c = search needs
 
-sub-chain : tie.Need-sub-chain Inv-loop μ-loop
-sub-chain c =
-    omega (arith, asks (c .before .before .before .before .before .before .before .before .before .before .before .before .before))
-
 chain-requires : tie.Need-chain-requires Inv-loop μ-loop
 chain-requires c κs =
-    let a = c .before .before .before .before .before .before .before .before .before .before .before .before .before .before .before .before .before .before .pre in
-    (c .before .if5 .left, (a .1 .0, (a .1 .1, asks (c .before .before .before .before .before .before .before .before .before .before .before .before .before) .known)))
+    let a = c .before .before .before .before .before .before .before .before .before .before .before .before .before .before .before .before .before .before .before .pre in
+    (c .before .before .if5 .left, (a .1 .0, (a .1 .1, asks (c .before .before .before .before .before .before .before .before .before .before .before .before .before .before) .known)))
 
 mul-s : tie.Need-mul-s Inv-loop μ-loop
 mul-s c =
-    omega (arith, c .chain .ensures, c .before .before .before .before .before .before .before .before .before .before .before .before .before .before .before .before .before .before .before .pre)
+    omega (arith, c .chain .ensures, c .before .before .before .before .before .before .before .before .before .before .before .before .before .before .before .before .before .before .before .before .pre)
 
 add-s : tie.Need-add-s Inv-loop μ-loop
 add-s c =
-    omega (arith, c .chain .ensures, c .before .before .before .before .before .before .before .before .before .before .before .before .before .before .before .before .before .before .before .pre)
+    omega (arith, c .chain .ensures, c .before .before .before .before .before .before .before .before .before .before .before .before .before .before .before .before .before .before .before .before .pre)
 
 add-asked-4 : tie.Need-add-asked-4 Inv-loop μ-loop
 add-asked-4 c =
-    omega (arith, asks (c .before .before .before .before .before .before .before .before .before .before .before .before .before .before), c .chain .ensures)
+    omega (arith, asks (c .before .before .before .before .before .before .before .before .before .before .before .before .before .before .before), c .chain .ensures, c .before .before .room .ensures)
 
 loop-less-3 : tie.Need-loop-less-3 Inv-loop μ-loop
 loop-less-3 c =
-    omega (arith, asks (c .before .before .before .before .before .before .before .before .before .before .before .before .before .before), c .chain .ensures)
+    omega (arith, asks (c .before .before .before .before .before .before .before .before .before .before .before .before .before .before .before), c .chain .ensures, c .before .before .room .ensures)
 
 loop-again-3 : tie.Need-loop-again-3 Inv-loop μ-loop
 loop-again-3 c =
-    walked-on (moved (asks (c .before .before .before .before .before .before .before .before .before .before .before .before .before .before)) _ (way-fails _ _ _ _ (sym (c .before .before .before .before .before .before .before .before .before .before .before .before .reading-at .ensures) ∙ c .before .before .before .before .before .before .before .before .before .before .x .given .1) (sym (c .before .before .before .before .before .holds-word .ensures) ∙ c .before .before .before .before .if3 .left)) (c .before .before .if5 .left)) (sym (c .before .before .before .before .before .before .before .before .before .before .before .before .reading-at .ensures) ∙ c .before .before .before .before .before .before .before .before .before .before .x .given .1) (c .chain .ensures)
+    let reads = sym (c .before .before .before .before .before .before .before .before .before .before .before .before .before .reading-at .ensures) ∙ c .before .before .before .before .before .before .before .before .before .before .before .x .given .1 in
+    let fails = sym (c .before .before .before .before .before .before .holds-word .ensures) ∙ c .before .before .before .before .before .if3 .left in
+    let next = moved (asks (c .before .before .before .before .before .before .before .before .before .before .before .before .before .before .before)) _ (way-fails _ _ _ _ reads fails) (c .before .before .before .if5 .left) in
+    walked-on next reads (c .before .before .room .ensures) (c .chain .ensures)
 
 pub walk-from-spec : {M : Type 1} → statement M
 walk-from-spec =
@@ -200,11 +207,12 @@ walk-from-spec =
     add-asked-2
     loop-less-2
     loop-again-2
-    shared-slice-read-s-3
+    shared-slice-read-next
     returns-4
     add-asked-3
+    sub-room
+    room-requires
     shared-slice-read-chain
-    sub-chain
     chain-requires
     mul-s
     add-s
