@@ -19,7 +19,6 @@ use Rattle.automaton.specs.Lists.{Begins, begins-refl, begins-append, begins-tr
 use Rattle.automaton.specs.Places.{meets-append, place-begins}
 use Rattle.builder.specs.Memory.{slotAt, statesIn, foundIn}
 use Rattle.builder.specs.Placed.{length-states}
-use Rattle.builder.specs.declared.Found.{Found}
 use Rattle.builder.specs.declared.Found.the-variants as F
 
 -- The part of the slots that a call is lent is the state there.
@@ -108,10 +107,10 @@ found-at n i used s c h none e ranks =
     let begins = states-begin n (i + 1) used s (omega arith) in
     let met : meets M (statesIn n (i + 1) s) c ≡ true = meets-next n i s c ranks none ∙ sym e in
     let place : placeOf M (statesIn n used s) c ≡ i =
-        place-begins M c begins met
-        ∙ ap (λ (l : List (List ℕ)). placeOf M l c) (states-next n i s)
-        ∙ place-more M (statesIn n i s) (slotAt n s i) c (none ranks) (sym e)
-        ∙ length-states n i s in
+    place-begins M c begins met
+    ∙ ap (λ (l : List (List ℕ)). placeOf M l c) (states-next n i s)
+    ∙ place-more M (statesIn n i s) (slotAt n s i) c (none ranks) (sym e)
+    ∙ length-states n i s in
     sym (ap (λ (b : Bool). cond b (F.At (placeOf M (statesIn n used s) c)) F.Nothing) (meets-begins M c begins met)
     ∙ ap (λ (k : ℕ). F.At k) place)
 

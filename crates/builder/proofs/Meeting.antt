@@ -64,10 +64,12 @@ module _ (n slots : ℕ) (ranks : List ℕ) (at used : ℕ) (t s : List ℕ) whe
       let scratched = ready .scratched in
       let ranked = ready .ranked in
       let behind = length-drop (slotWords * at) s in
-      record { few = few
-             ; source = ap length (slot-part n at s) ∙ length-take-le (filterSlot * n) (drop (slotWords * at) s) (omega arith)
-             ; target = sym (front-long n array few long)
-             ; ranked = omega arith }
+      record {
+        few = few;
+        source = ap length (slot-part n at s) ∙ length-take-le (filterSlot * n) (drop (slotWords * at) s) (omega arith);
+        target = sym (front-long n array few long);
+        ranked = omega arith;
+      }
 
   module _ (ready : Ready n slots ranks at used t s) (c : List ℕ) (whole : length c ≡ filterSlot * n) where
     pub search-asks : Search n used s c
@@ -78,13 +80,15 @@ module _ (n slots : ℕ) (ranks : List ℕ) (at used : ℕ) (t s : List ℕ) whe
 
     pub store-asks : (used ≡ slots → ⊥) → Store n slots ranks used t s c
     store-asks ne =
-        record { filters = ready .filters
-               ; ranked = ready .ranked
-               ; below = slot-left slots used (ready .within) ne
-               ; few = ready .few
-               ; tabled = ready .tabled
-               ; scratched = ready .scratched
-               ; whole = whole }
+        record {
+          filters = ready .filters;
+          ranked = ready .ranked;
+          below = slot-left slots used (ready .within) ne;
+          few = ready .few;
+          tabled = ready .tabled;
+          scratched = ready .scratched;
+          whole = whole;
+        }
 
 -- ---- the answers
 

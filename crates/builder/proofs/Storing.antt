@@ -1,6 +1,6 @@
 -- Words put into lent memory at a place: what lies before and behind stays. So a state and its record are stored behind the others.
 -- Assumes nothing.
-use Prim.Native.Nat.{ℕ, zero, suc, _+_, _*_, _-_, _≤_, _<_}
+use Prim.Native.Nat.{ℕ, zero, suc, _+_, _*_, _-_, _≤_}
 use mathlib.Core.Path.{_≡_, refl, sym, ap, ap₂, _∙_, subst}
 use mathlib.Core.Bool.{Bool, true, false, cond}
 use mathlib.Core.List.{List, [], _∷_, _++_, append-assoc}
@@ -8,12 +8,11 @@ use native.Mathlib.Omega.{arith}
 use borrow.Rule.Slice.PartMut.{midOf, postOf, putMid, take-put}
 use lib.ListN.{length, take, drop, length-drop, length-append, take-append-drop}
 use lib.Seq.{take-at, drop-at, drop-append-le, drop-drop, length-take-le}
-use Rattle.lists.specs.Filters.{maxFilters}
-use Rattle.tables.specs.Tables.{recordWords, maxSlots}
+use Rattle.tables.specs.Tables.{recordWords}
 use Rattle.slots.specs.Words.{filterSlot, slotWords}
 use Rattle.slots.specs.Slots.{freshWords, questionIn, fourWords, hasTest, sureSetIn, outSetIn}
 use Rattle.machine.specs.Box.{slotsIn}
-use Rattle.automaton.specs.Placing.{Memory, stored, freshRecord}
+use Rattle.automaton.specs.Placing.{stored, freshRecord}
 use Rattle.builder.specs.Memory.{slotAt, recordAt, statesIn, recordsAt, memoryOf}
 use Rattle.builder.specs.MemoryLaws.{states-more, records-more}
 use Rattle.builder.specs.Placed.{later}
@@ -112,10 +111,12 @@ stored-both n slots ranks used t s c p q asked e f =
     let next : b + recordWords ≡ recordWords * (used + 1) = omega arith in
     let kept : take a s' ≡ take a s = put-before a (length c) s c p refl fits e in
     let there : slotAt n s' used ≡ c = slot-there n used s c p whole fits e in
-    record { memory =
-               memory-more n ranks used t s c t' s' (states-more n used s s' c filters kept there)
-               (records-more used t t' (freshWords n ranks c) (put-before b recordWords t (freshWords n ranks c) q long room f)
-               (record-there used t (freshWords n ranks c) q long room f))
-           ; after = subst (λ (k : ℕ). drop k t' ≡ drop k t) next (put-behind b recordWords t (freshWords n ranks c) q long room f)
-           ; kept = kept
-           ; beyond = later (a + length c) (slotWords * slots) s' s (omega arith) (put-behind a (length c) s c p refl fits e) }
+    record {
+      memory =
+          memory-more n ranks used t s c t' s' (states-more n used s s' c filters kept there)
+          (records-more used t t' (freshWords n ranks c) (put-before b recordWords t (freshWords n ranks c) q long room f)
+          (record-there used t (freshWords n ranks c) q long room f));
+      after = subst (λ (k : ℕ). drop k t' ≡ drop k t) next (put-behind b recordWords t (freshWords n ranks c) q long room f);
+      kept = kept;
+      beyond = later (a + length c) (slotWords * slots) s' s (omega arith) (put-behind a (length c) s c p refl fits e);
+    }

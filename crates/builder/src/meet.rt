@@ -1,11 +1,10 @@
 // The state that an outcome leads to is looked for among those met, and stored where it is new.
-use crate::{Found, Met};
+use crate::Found;
+use crate::Met;
 use residue::Outcome;
-
 ghost use mathlib.Core.Path.{_≡_};
 ghost use mathlib.Core.List.{List};
-ghost use Prim.Native.Nat.{ℕ, _+_, _*_, _<_};
-ghost use lib.ListN.{length, take, drop};
+ghost use Prim.Native.Nat.{ℕ};
 ghost use Rattle.slots.specs.Slots.{stepWords, asksIn};
 ghost use Rattle.builder.specs.Memory.{slotAt, statesIn, foundIn};
 ghost use Rattle.builder.specs.Promises.{Ready, Held, Search, Store, Stored, Meeting};
@@ -28,7 +27,19 @@ fn find(scratch: &[u32], n: usize, used: usize, candidate: &[u32]) -> Found
 }
 
 // Stores the candidate in the next slot, and its record behind those already placed.
+<<<<<<< HEAD
 pub fn store(ranks: &[u32], n: usize, slots: usize, table: &mut [u32], scratch: &mut [u32], candidate: &[u32], used: usize)
+=======
+fn store(
+    ranks: &[u32],
+    n: usize,
+    slots: usize,
+    table: &mut [u32],
+    scratch: &mut [u32],
+    candidate: &[u32],
+    used: usize,
+)
+>>>>>>> meet
     requires { ⌜ Store n slots (now ranks) used (now table) (now scratch) (now candidate) ⌝ }
     ensures { λ _. ⌜ Stored n slots (now (ranks .entry)) used (now (table .entry)) (now (scratch .entry)) (now (candidate .entry)) (now (table .exit)) (now (scratch .exit)) ⌝ }
 {
@@ -53,7 +64,13 @@ pub fn meet(
     let width = 32 * n;
     let from = 1024 * at;
     let mut words = [0u32; 1024];
-    slots::step_into(&scratch[from..from + width], &mut words[..width], n, ranks, o);
+    slots::step_into(
+        &scratch[from..from + width],
+        &mut words[..width],
+        n,
+        ranks,
+        o,
+    );
     let candidate = &words[..width];
     match find(scratch, n, used, candidate) {
         Found::At(number) => Met::Old(number),

@@ -1,17 +1,9 @@
 -- `builder::meet::asks` meets its contract. The first word of the question is not 0 where there is one to ask.
 -- Assumes nothing.
-use mathlib.Core.Path.{sym, ap, _∙_}
-use mathlib.Core.Bool.{not}
-use lib.Dec.{eqb}
-use lib.ListN.{getD}
-use Rattle.slots.specs.Slots.{asksIn}
 use Rattle.builder.proofs.Finding.{asked-is}
 use borrow.Author.Needs.{needs}
 use Rattle.builder.proofs.meet.asks.Statement.{statement}
 use Rattle.builder.proofs.meet.asks.Tie as tie
-use Rattle.builder.proofs.meet.asks.Reads as reads
-use Rattle.builder.proofs.meet.asks.Lts as lts
-use Rattle.slots.proofs.question_of.Reads as question-of-reads
 
 mul-from : tie.Need-mul-from
 mul-from c = search needs

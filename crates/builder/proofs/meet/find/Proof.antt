@@ -1,16 +1,13 @@
 -- `builder::meet::find` meets its contract. The loop's invariant: none of the first i states is the candidate.
 -- Assumes nothing.
 use Prim.Native.Nat.{_≤_, _-_}
-use mathlib.Core.Path.{_≡_, sym, ap, _∙_}
+use mathlib.Core.Path.{sym, ap, _∙_}
 use native.Mathlib.Omega.{arith}
 use Rattle.slots.specs.Slots.{sameWords}
 use Rattle.builder.proofs.Finding.{Unmet, unmet-none, unmet-more, found-at, found-nothing, slot-part}
 use borrow.Author.Needs.{needs}
 use Rattle.builder.proofs.meet.find.Statement.{statement}
 use Rattle.builder.proofs.meet.find.Tie as tie
-use Rattle.builder.proofs.meet.find.Reads as reads
-use Rattle.builder.proofs.meet.find.Lts as lts
-use Rattle.slots.proofs.same.Reads as same-reads
 
 abbrev Inv-loop : tie.InvT-loop
 Inv-loop scratch n used candidate width i₀ i = (i ≤ used) × Unmet n i scratch candidate
@@ -67,10 +64,11 @@ loop-again c =
     let f = c .before in
     let t = f .before .before in
     let l = t .before .loop in
-    let a = t .before .before .before .before .args in
-    (omega arith,
-    unmet-more (a .n) (l .i) (a .scratch .now) (a .candidate .now) (l .inv .1)
-    (sym (c .if1 .left) ∙ f .same .ensures ∙ ap (λ ws. sameWords ws (a .candidate .now)) (slot-part (a .n) (l .i) (a .scratch .now))))
+    let a = t .before .before .before .before .args in (
+      omega arith,
+      unmet-more (a .n) (l .i) (a .scratch .now) (a .candidate .now) (l .inv .1)
+          (sym (c .if1 .left) ∙ f .same .ensures ∙ ap (λ ws. sameWords ws (a .candidate .now)) (slot-part (a .n) (l .i) (a .scratch .now))),
+    )
 
 returns-2 : tie.Need-returns-2 Inv-loop μ-loop
 returns-2 c =

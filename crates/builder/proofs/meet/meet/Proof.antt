@@ -1,18 +1,13 @@
 -- `builder::meet::meet` meets its contract. The candidate is the state stepped to, in front of the array; the search's answer says which case it is.
 -- Assumes nothing.
-use Prim.Native.Nat.{ℕ, _<_}
-use mathlib.Core.Path.{_≡_, refl, sym, ap, _∙_}
+use Prim.Native.Nat.{ℕ}
+use mathlib.Core.Path.{refl, sym}
 use mathlib.Core.List.{List}
 use lib.ListN.{replicate}
 use Rattle.builder.proofs.Meeting.{front-long, front-fits, front-whole, front-steps, step-asks, search-asks, store-asks, slot-left, met-old, met-full, met-new}
 use borrow.Author.Needs.{needs}
 use Rattle.builder.proofs.meet.meet.Statement.{statement}
 use Rattle.builder.proofs.meet.meet.Tie as tie
-use Rattle.builder.proofs.meet.meet.Reads as reads
-use Rattle.builder.proofs.meet.meet.Lts as lts
-use Rattle.builder.proofs.meet.find.Reads as find-reads
-use Rattle.builder.proofs.meet.store.Reads as store-reads
-use Rattle.slots.proofs.step_into.Reads as step-into-reads
 
 -- The array that the candidate is made in.
 abbrev words : List ℕ

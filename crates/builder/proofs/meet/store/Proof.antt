@@ -4,10 +4,6 @@ use Rattle.builder.proofs.Storing.{stored-both}
 use borrow.Author.Needs.{needs}
 use Rattle.builder.proofs.meet.store.Statement.{statement}
 use Rattle.builder.proofs.meet.store.Tie as tie
-use Rattle.builder.proofs.meet.store.Reads as reads
-use Rattle.builder.proofs.meet.store.Lts as lts
-use Rattle.builder.proofs.words.copy_into.Reads as copy-into-reads
-use Rattle.slots.proofs.write_record.Reads as write-record-reads
 
 mul-copy-into : tie.Need-mul-copy-into
 mul-copy-into c = search needs
