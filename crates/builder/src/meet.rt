@@ -27,10 +27,7 @@ fn find(scratch: &[u32], n: usize, used: usize, candidate: &[u32]) -> Found
 }
 
 // Stores the candidate in the next slot, and its record behind those already placed.
-<<<<<<< HEAD
-pub fn store(ranks: &[u32], n: usize, slots: usize, table: &mut [u32], scratch: &mut [u32], candidate: &[u32], used: usize)
-=======
-fn store(
+pub fn store(
     ranks: &[u32],
     n: usize,
     slots: usize,
@@ -39,7 +36,6 @@ fn store(
     candidate: &[u32],
     used: usize,
 )
->>>>>>> meet
     requires { ⌜ Store n slots (now ranks) used (now table) (now scratch) (now candidate) ⌝ }
     ensures { λ _. ⌜ Stored n slots (now (ranks .entry)) used (now (table .entry)) (now (scratch .entry)) (now (candidate .entry)) (now (table .exit)) (now (scratch .exit)) ⌝ }
 {
