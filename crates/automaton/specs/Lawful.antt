@@ -1,13 +1,11 @@
 -- What is asked of a machine, and what is said of lists of its states.
 --   Lawful M Good left  on good states: same is equality, a step from an asking state is good and has less left, a record's words are four and two
 --   Reached M s t       outcomes lead from s to t, each from a state that asks
---   Each P l            P of every element of l
---   Begins front whole  whole is front and some more behind it
 --   Distinct M met      no state stands twice in met
 use Prim.Native.Nat.{ℕ, _<_}
 use mathlib.Core.Path.{_≡_}
 use mathlib.Core.Bool.{true, false}
-use mathlib.Core.List.{List, [], _∷_, _++_, List·Memᴰ}
+use mathlib.Core.List.{List, [], _∷_}
 use lib.ListN.{length}
 use Rattle.residue.specs.declared.Outcome.{Outcome}
 use Rattle.automaton.specs.Machines.{Machine}
@@ -23,13 +21,6 @@ pub record Lawful (M : Machine) (Good : M .State → Type 0) (left : M .State �
 pub data Reached (M : Machine) (s : M .State) : M .State → Type 0 where
   start : Reached M s s
   further : {t : M .State} (o : Outcome) → Reached M s t → M .asks t ≡ true → Reached M s (M .step o t)
-
-abbrev pub Each : {A : Type 0} → (A → Type 0) → List A → Type 0
-Each {A} P l = (x : A) → List·Memᴰ x l → P x
-
-pub record Begins {A : Type 0} (front whole : List A) : Type 0 where
-  pub rest : List A
-  pub grown : whole ≡ front ++ rest
 
 -- No state of the list is the same as x.
 pub data Apart (M : Machine) (x : M .State) : List (M .State) → Type 0 where

@@ -1,25 +1,15 @@
 -- A state met has its place, which is its number: below the length, its own, and the same in every longer list.
-use Prim.Native.Nat.{ℕ, zero, suc, _+_, _≤_, _<_}
+use Prim.Native.Nat.{ℕ, zero, suc, _+_, _<_}
 use native.Mathlib.Omega.{arith}
 use native.Mathlib.Nat.{not-suc-le-zero, le-of-suc-le-suc}
 use native.Mathlib.Numerals.{add-one}
 use mathlib.Core.Path.{_≡_, refl, sym, ap, _∙_, subst}
 use mathlib.Core.Bool.{Bool, true, false, cond, _||_, false≢true, or-true}
-use mathlib.Core.List.{List, [], _∷_, _++_, List·Memᴰ, List·Memᴰ·head, List·Memᴰ·tail}
+use mathlib.Core.List.{List, [], _∷_, _++_, append-assoc, List·Memᴰ, List·Memᴰ·head, List·Memᴰ·tail}
 use lib.ListN.{length, getD}
 use Rattle.automaton.specs.Machines.{Machine, meets, placeOf}
-use Rattle.automaton.specs.Lawful.{Lawful, Each, Begins, Apart, apart-none, apart-more, Distinct, distinct-none, distinct-more}
-
-pub each-tail : {A : Type 0} {P : A → Type 0} {x : A} {l : List A} → Each P (x ∷ l) → Each P l
-each-tail all y m = all y (List·Memᴰ·tail m)
-
-pub each-head : {A : Type 0} {P : A → Type 0} {x : A} {l : List A} → Each P (x ∷ l) → P x
-each-head {x} all = all x (List·Memᴰ·head refl)
-
-pub getD-mem : {A : Type 0} (l : List A) (i : ℕ) (d : A) → i < length l → List·Memᴰ (getD l i d) l
-getD-mem [] i d h = absurd (not-suc-le-zero h)
-getD-mem (x ∷ l) zero d h = List·Memᴰ·head refl
-getD-mem (x ∷ l) (suc i) d h = List·Memᴰ·tail (getD-mem l i d (le-of-suc-le-suc h))
+use Rattle.automaton.specs.Lists.{each-head, each-tail, Each, Begins}
+use Rattle.automaton.specs.Lawful.{Lawful, Apart, apart-none, apart-more, Distinct, distinct-more}
 
 -- The states met, as a longer list has them.
 
@@ -42,7 +32,7 @@ place-append M [] more s e = absurd (false≢true e)
 place-append M (x ∷ met) more s e = go (M .same x s) (λ r. place-append M met more s r) e
   where
     go : (b : Bool) → (meets M met s ≡ true → placeOf M (met ++ more) s ≡ placeOf M met s) → (b || meets M met s) ≡ true
-      → cond b 0 (placeOf M (met ++ more) s + 1) ≡ cond b 0 (placeOf M met s + 1)
+        → cond b 0 (placeOf M (met ++ more) s + 1) ≡ cond b 0 (placeOf M met s + 1)
     go true below r = refl
     go false below r = ap (λ (n : ℕ). n + 1) (below r)
 
@@ -53,7 +43,7 @@ place-new M [] more s e r = rw r
 place-new M (x ∷ met) more s e r = go (M .same x s) (λ n. place-new M met more s n r) e
   where
     go : (b : Bool) → (meets M met s ≡ false → placeOf M (met ++ s ∷ more) s ≡ length met) → (b || meets M met s) ≡ false
-      → cond b 0 (placeOf M (met ++ s ∷ more) s + 1) ≡ suc (length met)
+        → cond b 0 (placeOf M (met ++ s ∷ more) s + 1) ≡ suc (length met)
     go true below n = absurd (false≢true (sym n))
     go false below n = add-one _ ∙ ap suc (below n)
 
@@ -63,9 +53,19 @@ place-below M [] s e = absurd (false≢true e)
 place-below M (x ∷ met) s e = go (M .same x s) (λ r. place-below M met s r) e
   where
     go : (b : Bool) → (meets M met s ≡ true → placeOf M met s < length met) → (b || meets M met s) ≡ true
-      → cond b 0 (placeOf M met s + 1) < suc (length met)
+        → cond b 0 (placeOf M met s + 1) < suc (length met)
     go true below r = omega arith
     go false below r = omega (arith, below r)
+
+-- The same, of a list that begins the longer one.
+
+pub place-begins : (M : Machine) {met whole : List (M .State)} (s : M .State) → Begins met whole → meets M met s ≡ true
+    → placeOf M whole s ≡ placeOf M met s
+place-begins M {met} s b e = rw (b .grown) (place-append M met (b .rest) s e)
+
+pub place-begins-new : (M : Machine) (met more : List (M .State)) {whole : List (M .State)} (s : M .State) → Begins (met ++ s ∷ more) whole
+    → meets M met s ≡ false → M .same s s ≡ true → placeOf M whole s ≡ length met
+place-begins-new M met more s b e r = rw (b .grown, append-assoc met (s ∷ more) (b .rest)) (place-new M met (more ++ b .rest) s e r)
 
 module _ {M : Machine} {Good : M .State → Type 0} {left : M .State → ℕ} (law : Lawful M Good left) where
   pub mem-meets : {met : List (M .State)} {s : M .State} → Good s → List·Memᴰ s met → meets M met s ≡ true
@@ -89,7 +89,7 @@ module _ {M : Machine} {Good : M .State → Type 0} {left : M .State → ℕ} (l
   place-state (x ∷ met) s d good e = go (M .same x s) refl (λ r. place-state met s d (each-tail good) r) e
     where
       go : (b : Bool) → M .same x s ≡ b → (meets M met s ≡ true → getD met (placeOf M met s) d ≡ s) → (b || meets M met s) ≡ true
-        → getD (x ∷ met) (cond b 0 (placeOf M met s + 1)) d ≡ s
+          → getD (x ∷ met) (cond b 0 (placeOf M met s + 1)) d ≡ s
       go true q below r = law .same-eq x s (each-head good) q
       go false q below r = rw add-one (below r)
 

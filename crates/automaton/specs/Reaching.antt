@@ -1,18 +1,19 @@
 -- The states met from a start are those that outcomes reach from it, and they are closed under step.
 --   Explored M met s news  after met and news, s is met and so are the ways of every state of news
-use Prim.Native.Nat.{ℕ, zero, suc, _+_, _≤_, _<_}
+use Prim.Native.Nat.{ℕ, zero, suc, _<_}
 use native.Mathlib.Nat.{not-suc-le-zero}
 use mathlib.Core.Path.{_≡_, refl, sym, ap, _∙_, subst}
-use mathlib.Core.Bool.{Bool, true, false, false≢true}
-use mathlib.Core.Logic.{_⊎_, inl, inr, ⊎-elim}
-use mathlib.Core.List.{List, [], _∷_, _++_, append-nil, List·Memᴰ, List·Memᴰ·head, List·Memᴰ·tail, List·Memᴰ·not-nil, List·Memᴰ·cases-cons, List·Memᴰ·append-cases, List·Memᴰ·eq-of-singleton, Memᴰ·append-left, Memᴰ·append-right, Memᴰ·cast}
+use mathlib.Core.Bool.{true, false≢true}
+use mathlib.Core.Logic.{⊎-elim}
+use mathlib.Core.List.{List, [], _∷_, _++_, List·Memᴰ, List·Memᴰ·head, List·Memᴰ·not-nil, List·Memᴰ·cases-cons, List·Memᴰ·append-cases, List·Memᴰ·eq-of-singleton, Memᴰ·append-left, Memᴰ·append-right, Memᴰ·cast}
 use lib.ListN.{length, getD}
 use Rattle.residue.specs.declared.Outcome.{Outcome}
 use Rattle.residue.specs.declared.Outcome.the-variants.{Holds, Fails, Absent}
 use Rattle.automaton.specs.Machines.{Machine, meets, placeOf, visit, visitWays}
-use Rattle.automaton.specs.Lawful.{Lawful, Reached, start, further, Each, Begins, Distinct, distinct-none}
+use Rattle.automaton.specs.Lists.{each-nil, each-cons, each-append, getD-mem, Each}
+use Rattle.automaton.specs.Lawful.{Lawful, Reached, start, further, Distinct, distinct-none}
 use Rattle.automaton.specs.Visited.{Visits, old, final, asking, Visit, visit-visits, three-ways, visit-cases, visit-start, visit-distinct}
-use Rattle.automaton.specs.Places.{getD-mem, mem-meets, meets-mem, meets-nil, place-new, place-state, place-getD}
+use Rattle.automaton.specs.Places.{mem-meets, meets-mem, meets-nil, place-new, place-state, place-getD}
 
 pub record Explored (M : Machine) (met : List (M .State)) (s : M .State) (news : List (M .State)) : Type 0 where
   pub has : List·Memᴰ s (met ++ news)
@@ -21,15 +22,6 @@ pub record Explored (M : Machine) (met : List (M .State)) (s : M .State) (news :
 pub reached-on : {M : Machine} {s t u : M .State} → Reached M s t → Reached M t u → Reached M s u
 reached-on r start = r
 reached-on r (further o q asks) = further o (reached-on r q) asks
-
-pub each-append : {A : Type 0} {P : A → Type 0} (a b : List A) → Each P a → Each P b → Each P (a ++ b)
-each-append a b p q x m = ⊎-elim (p x) (q x) (List·Memᴰ·append-cases a m)
-
-pub each-cons : {A : Type 0} {P : A → Type 0} {x : A} {l : List A} → P x → Each P l → Each P (x ∷ l)
-each-cons {A} {P} {x} {l} p q y m = ⊎-elim (λ (e : y ≡ x). subst P (sym e) p) (q y) (List·Memᴰ·cases-cons m)
-
-pub each-nil : {A : Type 0} (P : A → Type 0) → Each P []
-each-nil P x m = absurd (List·Memᴰ·not-nil m)
 
 -- What a visit adds is reached from its state.
 pub visits-reached : {M : Machine} {f : ℕ} {met news : List (M .State)} {s : M .State} → Visits M f met s news → Each (Reached M s) news
@@ -62,8 +54,8 @@ module _ {M : Machine} {Good : M .State → Type 0} {left : M .State → ℕ} (l
       (λ e. good)
       (λ e q. good1)
       (λ e q. visit-good f _ (M .step Absent s)
-              (visit-good f _ (M .step Fails s) (visit-good f _ (M .step Holds s) good1 (law .good-step Holds s g q)) (law .good-step Fails s g q))
-              (law .good-step Absent s g q))
+      (visit-good f _ (M .step Fails s) (visit-good f _ (M .step Holds s) good1 (law .good-step Holds s g q)) (law .good-step Fails s g q))
+      (law .good-step Absent s g q))
 
   visits-has : (met a b c : List (M .State)) (s : M .State) (o : Outcome) → Explored M (met ++ s ∷ []) (M .step Holds s) a
       → Explored M (met ++ s ∷ [] ++ a) (M .step Fails s) b → Explored M (met ++ s ∷ [] ++ a ++ b) (M .step Absent s) c
@@ -78,13 +70,13 @@ module _ {M : Machine} {Good : M .State → Type 0} {left : M .State → ℕ} (l
   visits-closed met a b c s v w z o t m q =
       ⊎-elim (λ (e : t ≡ s). Memᴰ·cast (ap (M .step o) e) (visits-has met a b c s o v w z))
       (λ (m : List·Memᴰ t (a ++ b ++ c)).
-        ⊎-elim
-        (λ (m : List·Memᴰ t (a ++ b)).
-          ⊎-elim (λ (m : List·Memᴰ t a). Memᴰ·append-left c (Memᴰ·append-left b (v .closed o t m q)))
-          (λ (m : List·Memᴰ t b). Memᴰ·append-left c (w .closed o t m q))
-          (List·Memᴰ·append-cases a m))
-        (λ (m : List·Memᴰ t c). z .closed o t m q)
-        (List·Memᴰ·append-cases (a ++ b) m))
+      ⊎-elim
+      (λ (m : List·Memᴰ t (a ++ b)).
+      ⊎-elim (λ (m : List·Memᴰ t a). Memᴰ·append-left c (Memᴰ·append-left b (v .closed o t m q)))
+      (λ (m : List·Memᴰ t b). Memᴰ·append-left c (w .closed o t m q))
+      (List·Memᴰ·append-cases a m))
+      (λ (m : List·Memᴰ t c). z .closed o t m q)
+      (List·Memᴰ·append-cases (a ++ b) m))
       (List·Memᴰ·cases-cons m)
 
   -- What a visit adds has all its ways met.
@@ -92,8 +84,10 @@ module _ {M : Machine} {Good : M .State → Type 0} {left : M .State → ℕ} (l
   visits-explored {met} {s} (old e) good g =
       record { has = Memᴰ·append-left [] (meets-mem law met s good e); closed = λ o t m q. absurd (List·Memᴰ·not-nil m) }
   visits-explored {met} {s} (final e n) good g =
-      record { has = Memᴰ·append-right met (List·Memᴰ·head refl);
-               closed = λ o t m q. absurd (false≢true (sym n ∙ sym (ap (M .asks) (List·Memᴰ·eq-of-singleton m)) ∙ q)) }
+      record {
+        has = Memᴰ·append-right met (List·Memᴰ·head refl);
+        closed = λ o t m q. absurd (false≢true (sym n ∙ sym (ap (M .asks) (List·Memᴰ·eq-of-singleton m)) ∙ q));
+      }
   visits-explored {met} {s} (asking {a = a} {b = b} {c = c} e n v w z) good g =
       let good1 = each-append met (s ∷ []) good (each-cons g (each-nil Good)) in
       let good2 = visits-good v good1 (law .good-step Holds s g n) in
@@ -101,8 +95,10 @@ module _ {M : Machine} {Good : M .State → Type 0} {left : M .State → ℕ} (l
       let v' = visits-explored v good1 (law .good-step Holds s g n) in
       let w' = visits-explored w good2 (law .good-step Fails s g n) in
       let z' = visits-explored z good3 (law .good-step Absent s g n) in
-      record { has = Memᴰ·append-right met (List·Memᴰ·head refl);
-               closed = λ o t m q. subst (λ (l : List (M .State)). List·Memᴰ (M .step o t) l) (three-ways met s a b c) (visits-closed met a b c s v' w' z' o t m q) }
+      record {
+        has = Memᴰ·append-right met (List·Memᴰ·head refl);
+        closed = λ o t m q. subst (λ (l : List (M .State)). List·Memᴰ (M .step o t) l) (three-ways met s a b c) (visits-closed met a b c s v' w' z' o t m q);
+      }
 
   pub visit-has : (f : ℕ) (met : List (M .State)) (s : M .State) → Each Good met → Good s → left s < f → meets M (visit M f met s) s ≡ true
   visit-has f met s each g h =

@@ -1,16 +1,18 @@
 -- Where the record of a state stands among the records of all: nine words from nine times its place on.
-use Prim.Native.Nat.{ℕ, zero, suc, _+_, _*_, _≤_, _<_}
+use Prim.Native.Nat.{ℕ, zero, suc, _+_, _*_, _<_}
 use native.Mathlib.Omega.{arith}
-use native.Mathlib.Nat.{not-suc-le-zero, le-of-suc-le-suc, mul-suc, mul-zero, zero-add}
-use mathlib.Core.Path.{_≡_, refl, sym, ap, _∙_, subst}
+use native.Mathlib.Nat.{not-suc-le-zero, le-of-suc-le-suc, mul-suc, mul-zero}
+use mathlib.Core.Path.{_≡_, refl, sym, ap, _∙_}
 use mathlib.Core.Bool.{Bool, true, false, cond}
-use mathlib.Core.List.{List, [], _∷_, _++_, map}
+use mathlib.Core.List.{List, [], _∷_, _++_, map, append-assoc}
 use lib.ListN.{length, getD, take, drop, length-append, List·getD-append}
 use lib.Seq.{take-at, drop-append-add, getD-append-add, getD-take, getD-drop}
+use Rattle.residue.specs.declared.Outcome.{Outcome}
 use Rattle.residue.specs.declared.Outcome.the-variants.{Holds, Fails, Absent}
 use Rattle.automaton.specs.Machines.{Machine, placeOf, nextsOf, recordOf, flat, recordsOf}
-use Rattle.automaton.specs.Lawful.{Lawful, Each}
-use Rattle.automaton.specs.Places.{each-head, each-tail}
+use Rattle.automaton.specs.Lists.{each-head, each-tail, Each}
+use Rattle.automaton.specs.Placing.{nextWord}
+use Rattle.automaton.specs.Lawful.{Lawful}
 
 -- Parts of one length, one behind the other.
 module _ {A : Type 0} (part : A → List ℕ) (k : ℕ) where
@@ -53,11 +55,34 @@ nexts-long M met s = go (M .asks s)
     go true = refl
     go false = refl
 
+getD-behind : (q ws : List ℕ) (k n : ℕ) → length q ≡ k → getD (q ++ ws) (k + n) 0 ≡ getD ws n 0
+getD-behind q ws k n h = rw (← h) (getD-append-add q ws n 0)
+
 module _ {M : Machine} {Good : M .State → Type 0} {left : M .State → ℕ} (law : Lawful M Good left) where
   pub record-long : (met : List (M .State)) (s : M .State) → Good s → length (recordOf M met s) ≡ 9
   unfolding recordOf
   record-long met s g =
       simp length-append (omega (arith, law .question-long s g, nexts-long M met s, law .sets-long s g))
+
+  -- The words of one record: the question, the next numbers, the sets.
+
+  pub record-question : (met : List (M .State)) (s : M .State) (j : ℕ) → Good s → j < 4 → getD (recordOf M met s) j 0 ≡ getD (M .question s) j 0
+  unfolding recordOf
+  record-question met s j g h =
+      rw append-assoc (List·getD-append (M .question s) (nextsOf M met s ++ M .sets s) 0 j (omega (arith, law .question-long s g)))
+
+  pub record-next : (met : List (M .State)) (s : M .State) (o : Outcome) → Good s → M .asks s ≡ true
+      → getD (recordOf M met s) (nextWord o) 0 ≡ placeOf M met (M .step o s)
+  unfolding recordOf nextsOf nextWord
+  record-next met s Holds g q = rw (append-assoc, q) (getD-behind (M .question s) _ 4 0 (law .question-long s g))
+  record-next met s Fails g q = rw (append-assoc, q) (getD-behind (M .question s) _ 4 1 (law .question-long s g))
+  record-next met s Absent g q = rw (append-assoc, q) (getD-behind (M .question s) _ 4 2 (law .question-long s g))
+
+  pub record-sets : (met : List (M .State)) (s : M .State) (j : ℕ) → Good s → getD (recordOf M met s) (7 + j) 0 ≡ getD (M .sets s) j 0
+  unfolding recordOf
+  record-sets met s j g =
+      getD-behind (M .question s ++ nextsOf M met s) (M .sets s) 7 j
+      (simp length-append (omega (arith, law .question-long s g, nexts-long M met s)))
 
   -- The records of any good states.
   module _ (met : List (M .State)) (good : Each Good met) where

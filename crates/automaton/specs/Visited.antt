@@ -1,26 +1,26 @@
 -- The states met only grow, no state is met twice, and each visit is a derivation.
 --   Visits M f met s news   meeting s after met adds news; at most f questions follow one another
 --   Visit M f met s         the derivation of visit M f met s
-use Prim.Native.Nat.{ℕ, zero, suc, _+_, _≤_, _<_}
+use Prim.Native.Nat.{ℕ, zero, suc, _<_}
 use native.Mathlib.Omega.{arith}
 use native.Mathlib.Nat.{not-suc-le-zero}
-use mathlib.Core.Path.{_≡_, refl, sym, ap, _∙_, subst}
-use mathlib.Core.Bool.{Bool, true, false, cond, _||_, false≢true}
-use mathlib.Core.Logic.{_⊎_, inl, inr}
-use mathlib.Core.List.{List, [], _∷_, _++_, append-assoc, append-nil, List·Memᴰ, Memᴰ·append-left, List·Memᴰ·append-cases, List·Memᴰ·eq-of-singleton}
+use mathlib.Core.Path.{_≡_, refl, sym, _∙_}
+use mathlib.Core.Bool.{Bool, true, false, _||_, false≢true}
+use mathlib.Core.List.{List, [], _∷_, _++_, append-assoc, append-nil}
 use Rattle.residue.specs.declared.Outcome.{Outcome}
 use Rattle.residue.specs.declared.Outcome.the-variants.{Holds, Fails, Absent}
-use Rattle.automaton.specs.Machines.{Machine, meets, placeOf, visit, visitWays}
-use Rattle.automaton.specs.Lawful.{Lawful, Each, Begins, Apart, apart-none, apart-more, Distinct, distinct-none, distinct-more}
+use Rattle.automaton.specs.Machines.{Machine, meets, visit, visitWays}
+use Rattle.automaton.specs.Lists.{Begins, begins-refl, begins-append, begins-trans}
+use Rattle.automaton.specs.Lawful.{Lawful, Apart, apart-none, apart-more, Distinct, distinct-none, distinct-more}
 
 pub data Visits (M : Machine) : ℕ → List (M .State) → M .State → List (M .State) → Type 0 where
   old : {f : ℕ} {met : List (M .State)} {s : M .State} → meets M met s ≡ true → Visits M f met s []
   final : {f : ℕ} {met : List (M .State)} {s : M .State} → meets M met s ≡ false → M .asks s ≡ false → Visits M f met s (s ∷ [])
   asking : {f : ℕ} {met a b c : List (M .State)} {s : M .State} → meets M met s ≡ false → M .asks s ≡ true
-    → Visits M f (met ++ s ∷ []) (M .step Holds s) a
-    → Visits M f (met ++ s ∷ [] ++ a) (M .step Fails s) b
-    → Visits M f (met ++ s ∷ [] ++ a ++ b) (M .step Absent s) c
-    → Visits M (suc f) met s (s ∷ (a ++ b ++ c))
+      → Visits M f (met ++ s ∷ []) (M .step Holds s) a
+      → Visits M f (met ++ s ∷ [] ++ a) (M .step Fails s) b
+      → Visits M f (met ++ s ∷ [] ++ a ++ b) (M .step Absent s) c
+      → Visits M (suc f) met s (s ∷ (a ++ b ++ c))
 
 pub record Visit (M : Machine) (f : ℕ) (met : List (M .State)) (s : M .State) : Type 0 where
   pub news : List (M .State)
@@ -56,21 +56,6 @@ visit-cases M P f met s old-case final-case asking-case = go (meets M met s) (M 
     go true q e eq = rw (visit-old M f met s e) (old-case e)
     go false true e eq = rw (visit-asking M f met s e eq) (asking-case e eq)
     go false false e eq = rw (visit-final M f met s e eq) (final-case e eq)
-
--- A list that begins another.
-
-pub begins-refl : {A : Type 0} (l : List A) → Begins l l
-begins-refl l = record { rest = []; grown = sym (append-nil l) }
-
-pub begins-append : {A : Type 0} (l more : List A) → Begins l (l ++ more)
-begins-append l more = record { rest = more; grown = refl }
-
-pub begins-trans : {A : Type 0} {a b c : List A} → Begins a b → Begins b c → Begins a c
-begins-trans {A} {a} {b} {c} p q =
-    record { rest = p .rest ++ q .rest; grown = q .grown ∙ rw (p .grown) (append-assoc a (p .rest) (q .rest)) }
-
-pub begins-mem : {A : Type 0} {a b : List A} {x : A} → Begins a b → List·Memᴰ x a → List·Memᴰ x b
-begins-mem {A} {a} {b} {x} p m = subst (λ (l : List A). List·Memᴰ x l) (sym (p .grown)) (Memᴰ·append-left (p .rest) m)
 
 -- What is met stays met, in its place.
 
@@ -126,7 +111,7 @@ visit-distinct M (suc f) met s d =
     (λ e. d)
     (λ e q. distinct-append M s d e)
     (λ e q. visit-distinct M f _ (M .step Absent s)
-            (visit-distinct M f _ (M .step Fails s) (visit-distinct M f _ (M .step Holds s) (distinct-append M s d e))))
+    (visit-distinct M f _ (M .step Fails s) (visit-distinct M f _ (M .step Holds s) (distinct-append M s d e))))
 
 -- A derivation tells what a visit adds, and with enough fuel there is one.
 
@@ -161,7 +146,7 @@ module _ {M : Machine} {Good : M .State → Type 0} {left : M .State → ℕ} (l
   visits-exist (suc f) met s g h = go (λ met s g h. visits-exist f met s g h) (meets M met s) (M .asks s) refl refl
     where
       go : ((met : List (M .State)) (s : M .State) → Good s → left s < suc f → (news : List (M .State)) × Visits M f met s news)
-        → (b q : Bool) → meets M met s ≡ b → M .asks s ≡ q → (news : List (M .State)) × Visits M (suc f) met s news
+          → (b q : Bool) → meets M met s ≡ b → M .asks s ≡ q → (news : List (M .State)) × Visits M (suc f) met s news
       go below true q e eq = ([], old e)
       go below false false e eq = (s ∷ [], final e eq)
       go below false true e eq =
