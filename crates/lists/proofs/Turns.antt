@@ -13,7 +13,7 @@ use lib.Dec.{eqb}
 use lib.ListN.{length, getD, take, drop, length-drop}
 use lib.Seq.{getD-drop, drop-drop, take-all}
 use borrow.Author.Tests.{eq-eqb, ne-eqb}
-use Rattle.lists.specs.Filters.{headWords, testWords, countWord, filterWords}
+use Rattle.lists.specs.Filters.{maxFilters, headWords, testWords, countWord, filterWords}
 use Rattle.lists.specs.Refusals.{testFault, wordsFault, testsFault, filterFault, listedFrom}
 use Rattle.lists.specs.Laws.{NoFault, no-fault, listed-step, listed-full}
 use Rattle.lists.specs.declared.Listed.{Listed}
@@ -38,25 +38,25 @@ tests-found ws (suc n) l e = rw (ne-eqb (wordsFault ws) 0 e)
 pub count-at : (ws : List ℕ) (at : ℕ) → countWord (drop at ws) ≡ getD ws (at + 2) 0
 count-at ws at = getD-drop at ws 2 0
 
-pub list-turn : (ws : List ℕ) (at i t : ℕ) → i < 32 → at < length ws → filterFault (drop at ws) ≡ 0 →
-    listedFrom (32 - i) i t (drop at ws) ≡ listedFrom (32 - (i + 1)) (i + 1) (t + getD ws (at + 2) 0) (drop (at + (3 + 4 * getD ws (at + 2) 0)) ws)
+pub list-turn : (ws : List ℕ) (at i t : ℕ) → i < maxFilters → at < length ws → filterFault (drop at ws) ≡ 0 →
+    listedFrom (maxFilters - i) i t (drop at ws) ≡ listedFrom (maxFilters - (i + 1)) (i + 1) (t + getD ws (at + 2) 0) (drop (at + (3 + 4 * getD ws (at + 2) 0)) ws)
 list-turn ws at i t h l e =
-    let z : 32 - i ≡ suc (32 - (i + 1)) = omega arith in
+    let z : maxFilters - i ≡ suc (maxFilters - (i + 1)) = omega arith in
     rw z
-    (listed-step (32 - (i + 1)) i t (drop at ws) (rw length-drop (omega arith)) ∙
+    (listed-step (maxFilters - (i + 1)) i t (drop at ws) (rw length-drop (omega arith)) ∙
     rw (eq-eqb (filterFault (drop at ws)) 0 e, drop-drop (filterWords (drop at ws)) at ws, getD-drop at ws 2 0))
 
-pub list-found : (ws : List ℕ) (at i t : ℕ) → i < 32 → at < length ws → (filterFault (drop at ws) ≡ 0 → ⊥) →
-    listedFrom (32 - i) i t (drop at ws) ≡ Refused (filterFault (drop at ws)) i
+pub list-found : (ws : List ℕ) (at i t : ℕ) → i < maxFilters → at < length ws → (filterFault (drop at ws) ≡ 0 → ⊥) →
+    listedFrom (maxFilters - i) i t (drop at ws) ≡ Refused (filterFault (drop at ws)) i
 list-found ws at i t h l e =
-    let z : 32 - i ≡ suc (32 - (i + 1)) = omega arith in
+    let z : maxFilters - i ≡ suc (maxFilters - (i + 1)) = omega arith in
     rw z
-    (listed-step (32 - (i + 1)) i t (drop at ws) (rw length-drop (omega arith)) ∙
+    (listed-step (maxFilters - (i + 1)) i t (drop at ws) (rw length-drop (omega arith)) ∙
     rw (ne-eqb (filterFault (drop at ws)) 0 e))
 
-pub list-over : (ws : List ℕ) (at i t : ℕ) → i ≡ 32 → at < length ws → listedFrom (32 - i) i t (drop at ws) ≡ Refused 1 i
+pub list-over : (ws : List ℕ) (at i t : ℕ) → i ≡ maxFilters → at < length ws → listedFrom (maxFilters - i) i t (drop at ws) ≡ Refused 1 i
 list-over ws at i t h l =
-    let z : 32 - i ≡ 0 = omega arith in
+    let z : maxFilters - i ≡ 0 = omega arith in
     rw z (listed-full i t (drop at ws) (rw length-drop (omega arith)))
 
 -- A part that is lent from a place on is the rest of the words.

@@ -1,26 +1,29 @@
 -- Laws of lists, for the crates above.
 -- Reading from the front: listed-step, listed-end, listed-full; no-fault says what a filter without a fault has;
---   accepted-head, accepted-rest take one filter off an accepted list.
+--   accepted-head, accepted-rest, filters-step take one filter off an accepted list.
 -- Accepted lists: accepted-count, accepted-well. A test and its words: item-round, words-round.
--- Ranks: above-irreflexive, above-transitive.
+-- Ranks: above-irreflexive, above-transitive; rank sets: getD-rankSets, rankSet-in, rankSet-beyond, member-rankSet, rankSet-clear, rankSet-bound.
 -- Assumes nothing.
-use Prim.Native.Nat.{ℕ, zero, suc, _+_, _*_, _≤_, _<_}
+use Prim.Native.Nat.{ℕ, zero, suc, _+_, _*_, _^_, _≤_, _<_}
 use mathlib.Core.Path.{_≡_, refl, sym, ap, ap₂, _∙_}
 use mathlib.Core.Bool.{Bool, true, false, cond, not, _&&_, _||_, false≢true, true≢false}
 use mathlib.Core.List.{List, [], _∷_}
-use native.Mathlib.Nat.{not-suc-le-zero}
+use native.Mathlib.Nat.{not-suc-le-zero, zero-lt-suc}
 use native.Mathlib.Omega.{arith}
 use lib.Bits.{bitAnd}
 use lib.Dec.{leb, ltb, eqb, lit<}
 use lib.ListN.{length, getD, take, drop}
 use borrow.Author.Tests.{ltb-true, ltb-false, leb-true, leb-false, eqb-true, eqb-false, not-false, lt-ltb, le-leb, eq-eqb, le-ltb, ne-eqb}
+use lib.Pow.{pow-pos}
+use Rattle.sets.specs.Sets.{setOf, member, tally, some}
+use Rattle.sets.specs.Laws.{length-tally, getD-tally, member-tally, and-tally-zero, tally-bound}
 use Rattle.residue.specs.Tests.{wellMasked, wellFormed}
 use Rattle.residue.specs.declared.Test.{Test}
 use Rattle.residue.specs.declared.Test.the-variants.{Equal, Differs, AtMost, AtLeast}
 use Rattle.fields.specs.Widths.{fieldCount, full}
 use Rattle.lists.specs.Filters.{maxFilters, maxTests, maxRank, headWords, testWords, groupWord, levelWord, countWord, filterWords, Item, Filter, testOf, itemOf, itemsOf, filterOf, filtersFrom, filtersOf, testsIn}
 use Rattle.lists.specs.Refusals.{masked, testFault, wordsFault, testsFault, filterFault, listedFrom, listed}
-use Rattle.lists.specs.Ranks.{noFilter, groupOf, levelOf, outranks, above}
+use Rattle.lists.specs.Ranks.{noFilter, groupOf, levelOf, outranks, above, rankSet, rankSets}
 use Rattle.lists.specs.Accepted.{isAccepted, wellItem, wellItems, wellFilter, wellFilters, kindOf, maskOf, valueOf, itemWords}
 use Rattle.lists.specs.declared.Listed.{Listed}
 use Rattle.lists.specs.declared.Listed.the-variants.{Accepted, Refused}
@@ -31,7 +34,7 @@ or-parts : (a b : Bool) → (a || b) ≡ false → (a ≡ false) × (b ≡ false
 or-parts true b e = absurd (true≢false e)
 or-parts false b e = (refl, e)
 
-and-parts : (a b : Bool) → (a && b) ≡ true → (a ≡ true) × (b ≡ true)
+pub and-parts : (a b : Bool) → (a && b) ≡ true → (a ≡ true) × (b ≡ true)
 and-parts true b e = (refl, e)
 and-parts false b e = absurd (false≢true e)
 
@@ -208,19 +211,29 @@ unfolding listedFrom
 listed-full i t [] l = absurd (not-suc-le-zero l)
 listed-full i t (w ∷ ws) l = refl
 
-accepted-parts : (n i t a b : ℕ) (w : ℕ) (ws : List ℕ) → listedFrom (suc n) i t (w ∷ ws) ≡ Accepted a b → (filterFault (w ∷ ws) ≡ 0) × (listedFrom n (i + 1) (t + countWord (w ∷ ws)) (drop (filterWords (w ∷ ws)) (w ∷ ws)) ≡ Accepted a b)
-unfolding listedFrom
-accepted-parts n i t a b w ws e = go (eqb (filterFault (w ∷ ws)) 0) refl e
+accepted-parts : (n i t a b : ℕ) (ws : List ℕ) → 0 < length ws → listedFrom (suc n) i t ws ≡ Accepted a b → (filterFault ws ≡ 0) × (listedFrom n (i + 1) (t + countWord ws) (drop (filterWords ws) ws) ≡ Accepted a b)
+accepted-parts n i t a b ws l e = go (eqb (filterFault ws) 0) refl (sym (listed-step n i t ws l) ∙ e)
   where
-    go : (c : Bool) → eqb (filterFault (w ∷ ws)) 0 ≡ c → cond c (listedFrom n (i + 1) (t + countWord (w ∷ ws)) (drop (filterWords (w ∷ ws)) (w ∷ ws))) (Refused (filterFault (w ∷ ws)) i) ≡ Accepted a b → (filterFault (w ∷ ws) ≡ 0) × (listedFrom n (i + 1) (t + countWord (w ∷ ws)) (drop (filterWords (w ∷ ws)) (w ∷ ws)) ≡ Accepted a b)
-    go true z h = (eqb-true (filterFault (w ∷ ws)) 0 z, h)
+    go : (c : Bool) → eqb (filterFault ws) 0 ≡ c → cond c (listedFrom n (i + 1) (t + countWord ws) (drop (filterWords ws) ws)) (Refused (filterFault ws) i) ≡ Accepted a b → (filterFault ws ≡ 0) × (listedFrom n (i + 1) (t + countWord ws) (drop (filterWords ws) ws) ≡ Accepted a b)
+    go true z h = (eqb-true (filterFault ws) 0 z, h)
     go false z h = absurd (false≢true (ap isAccepted h))
 
-pub accepted-head : (n i t a b : ℕ) (w : ℕ) (ws : List ℕ) → listedFrom (suc n) i t (w ∷ ws) ≡ Accepted a b → NoFault (w ∷ ws)
-accepted-head n i t a b w ws e = no-fault (w ∷ ws) (accepted-parts n i t a b w ws e .0)
+pub accepted-head : (n i t a b : ℕ) (ws : List ℕ) → 0 < length ws → listedFrom (suc n) i t ws ≡ Accepted a b → NoFault ws
+accepted-head n i t a b ws l e = no-fault ws (accepted-parts n i t a b ws l e .0)
 
-pub accepted-rest : (n i t a b : ℕ) (w : ℕ) (ws : List ℕ) → listedFrom (suc n) i t (w ∷ ws) ≡ Accepted a b → listedFrom n (i + 1) (t + countWord (w ∷ ws)) (drop (filterWords (w ∷ ws)) (w ∷ ws)) ≡ Accepted a b
-accepted-rest n i t a b w ws e = accepted-parts n i t a b w ws e .1
+pub accepted-rest : (n i t a b : ℕ) (ws : List ℕ) → 0 < length ws → listedFrom (suc n) i t ws ≡ Accepted a b → listedFrom n (i + 1) (t + countWord ws) (drop (filterWords ws) ws) ≡ Accepted a b
+accepted-rest n i t a b ws l e = accepted-parts n i t a b ws l e .1
+
+-- The filters from the front.
+pub filters-step : (n : ℕ) (ws : List ℕ) → 0 < length ws → filtersFrom (suc n) ws ≡ filterOf ws ∷ filtersFrom n (drop (filterWords ws) ws)
+unfolding filtersFrom
+filters-step n [] l = absurd (not-suc-le-zero l)
+filters-step n (w ∷ ws) l = refl
+
+pub filters-none : (n : ℕ) → filtersFrom n [] ≡ []
+unfolding filtersFrom
+filters-none zero = refl
+filters-none (suc n) = refl
 
 -- No filter can follow the last.
 pub accepted-last : (i t a b : ℕ) (w : ℕ) (ws : List ℕ) → listedFrom 0 i t (w ∷ ws) ≡ Accepted a b → ⊥
@@ -273,12 +286,12 @@ counted-from zero i t a b [] e = counted-none zero i t a b e
 counted-from zero i t a b (w ∷ ws) e = absurd (accepted-last i t a b w ws e)
 counted-from (suc n) i t a b [] e = counted-none (suc n) i t a b e
 counted-from (suc n) i t a b (w ∷ ws) e =
-    let h = accepted-head n i t a b w ws e in
+    let h = accepted-head n i t a b (w ∷ ws) (zero-lt-suc (length ws)) e in
     let m = length-items (countWord (w ∷ ws)) (drop headWords (w ∷ ws)) in
     counted-more (filterOf (w ∷ ws)) (filtersFrom n (drop (filterWords (w ∷ ws)) (w ∷ ws))) n i t a b
     (omega (arith, m, h .count))
     (no-fault-well (w ∷ ws) h)
-    (rw m (counted-from n (i + 1) (t + countWord (w ∷ ws)) a b (drop (filterWords (w ∷ ws)) (w ∷ ws)) (accepted-rest n i t a b w ws e)))
+    (rw m (counted-from n (i + 1) (t + countWord (w ∷ ws)) a b (drop (filterWords (w ∷ ws)) (w ∷ ws)) (accepted-rest n i t a b (w ∷ ws) (zero-lt-suc (length ws)) e)))
 
 pub accepted-count : (ws : List ℕ) (n t : ℕ) → listed ws ≡ Accepted n t → (length (filtersOf ws) ≡ n) × (testsIn (filtersOf ws) ≡ t) × (n ≤ maxFilters) × (t ≤ maxTests * n)
 unfolding listed filtersOf
@@ -364,3 +377,38 @@ above-transitive fs i j k p q =
           lower = omega (arith, x .lower, y .lower);
           earlier = λ (e : l ≡ n). omega (arith, x .earlier (omega (arith, x .lower, y .lower)), y .earlier (omega (arith, x .lower, y .lower)));
         }
+
+-- ---- rank sets
+
+pub length-rankSets : (fs : List Filter) → length (rankSets fs) ≡ maxFilters
+unfolding rankSets
+length-rankSets fs = length-tally maxFilters (rankSet fs)
+
+pub getD-rankSets : (fs : List Filter) (i : ℕ) → i < maxFilters → getD (rankSets fs) i 0 ≡ rankSet fs i
+unfolding rankSets
+getD-rankSets fs i l = getD-tally maxFilters (rankSet fs) 0 i l
+
+pub rankSet-in : (fs : List Filter) (i : ℕ) → i < length fs → rankSet fs i ≡ setOf (tally (length fs) (λ j. above fs j i))
+unfolding rankSet
+rankSet-in fs i l = rw (lt-ltb i (length fs) l)
+
+pub rankSet-beyond : (fs : List Filter) (i : ℕ) → length fs ≤ i → rankSet fs i ≡ 0
+unfolding rankSet
+rankSet-beyond fs i l = rw (le-ltb i (length fs) l)
+
+pub member-rankSet : (fs : List Filter) (i j : ℕ) → i < length fs → member j (rankSet fs i) ≡ (ltb j (length fs) && above fs j i)
+member-rankSet fs i j l = ap (member j) (rankSet-in fs i l) ∙ member-tally (length fs) (λ k. above fs k i) j
+
+-- None of a set of the list's filters ranks above filter i.
+pub rankSet-clear : (fs : List Filter) (p : ℕ → Bool) (i : ℕ) → i < length fs → eqb (bitAnd (rankSet fs i) (setOf (tally (length fs) p))) 0 ≡ not (some (length fs) (λ j. above fs j i && p j))
+rankSet-clear fs p i l =
+    ap (λ (s : ℕ). eqb (bitAnd s (setOf (tally (length fs) p))) 0) (rankSet-in fs i l) ∙
+    and-tally-zero (length fs) (λ j. above fs j i) p
+
+pub rankSet-bound : (k : ℕ) (fs : List Filter) (i : ℕ) → length fs ≤ k → rankSet fs i < 2 ^ k
+unfolding rankSet
+rankSet-bound k fs i l = go (ltb i (length fs))
+  where
+    go : (b : Bool) → cond b (setOf (tally (length fs) (λ j. above fs j i))) 0 < 2 ^ k
+    go true = tally-bound k (length fs) (λ j. above fs j i) l
+    go false = pow-pos k

@@ -3,9 +3,23 @@ ghost use mathlib.Core.Path.{_≡_};
 ghost use mathlib.Core.Bool.{cond, not};
 ghost use Prim.Native.Nat.{_+_, _*_, _≤_};
 ghost use lib.Dec.{eqb};
-ghost use lib.ListN.{length, drop};
-ghost use Rattle.lists.specs.Filters.{testWords};
+ghost use lib.ListN.{length, getD, drop};
+ghost use Rattle.sets.specs.Sets.{setOf, tally};
+ghost use Rattle.lists.specs.Filters.{maxFilters, testWords, filtersOf};
+ghost use Rattle.lists.specs.Ranks.{Heads, aboveBy, rankSetBy, rankSets};
 ghost use Rattle.lists.specs.Refusals.{masked, testFault, wordsFault, testsFault, filterFault, listed};
+
+const MAX_FILTERS: usize = 32;
+
+const MAX_TESTS: u32 = 8;
+
+const MAX_RANK: u32 = 255;
+
+const HEAD_WORDS: usize = 3;
+
+const TEST_WORDS: usize = 4;
+
+const FIELDS: u32 = 14;
 
 // What reading a list comes to: so many filters and tests, or a refusal's number with the filter's number.
 pub enum Listed {
@@ -27,7 +41,7 @@ fn test_fault(kind: u32, field: u32, mask: u32, value: u32) -> u32
     if (kind == 0) | (4 < kind) {
         return 5;
     }
-    if 14 <= field {
+    if FIELDS <= field {
         return 6;
     }
     if wrong_mask(kind, mask) {
@@ -63,7 +77,7 @@ fn tests_fault(words: &[u32], n: u32) -> u32
         if fault != 0 {
             return fault;
         }
-        at += 4;
+        at += TEST_WORDS;
         left -= 1;
     }
     0
@@ -73,21 +87,21 @@ fn tests_fault(words: &[u32], n: u32) -> u32
 fn filter_fault(words: &[u32]) -> u32
     ensures { λ r. ⌜ r ≡ filterFault (now (words .entry)) ⌝ }
 {
-    if words.len() < 3 {
+    if words.len() < HEAD_WORDS {
         return 2;
     }
     let count = words[2];
-    if (255 < words[0]) | (255 < words[1]) {
+    if (MAX_RANK < words[0]) | (MAX_RANK < words[1]) {
         return 3;
     }
-    if 8 < count {
+    if MAX_TESTS < count {
         return 4;
     }
     // Only now is the count small enough to be multiplied.
-    if words.len() < 3 + 4 * (count as usize) {
+    if words.len() < HEAD_WORDS + TEST_WORDS * (count as usize) {
         return 2;
     }
-    tests_fault(&words[3..], count)
+    tests_fault(&words[HEAD_WORDS..], count)
 }
 
 // Reads the whole list: how many filters and tests it has, or its first fault and the filter that has it.
@@ -98,7 +112,7 @@ pub fn check(list: &[u32]) -> Listed
     let mut filters: u32 = 0;
     let mut tests: u32 = 0;
     while at < list.len() {
-        if filters == 32 {
+        if filters == MAX_FILTERS as u32 {
             return Listed::Refused(1, filters);
         }
         let fault = filter_fault(&list[at..]);
@@ -106,9 +120,89 @@ pub fn check(list: &[u32]) -> Listed
             return Listed::Refused(fault, filters);
         }
         let count = list[at + 2];
-        at += 3 + 4 * (count as usize);
+        at += HEAD_WORDS + TEST_WORDS * (count as usize);
         tests += count;
         filters += 1;
     }
     Listed::Accepted(filters, tests)
+}
+
+// The word at a place; 0 behind the last, as the definitions read it.
+fn word_at(words: &[u32], at: usize) -> u32
+    ensures { λ r. ⌜ r ≡ getD (now (words .entry)) at 0 ⌝ }
+{
+    if at < words.len() { words[at] } else { 0 }
+}
+
+// Writes the groups and levels of the list's filters, and says how many there are.
+fn heads(list: &[u32], groups: &mut [u32], levels: &mut [u32]) -> usize
+    requires { ⌜ (length (now groups) ≡ maxFilters) × (length (now levels) ≡ maxFilters) ⌝ }
+    ensures { λ r. ⌜ Heads (filtersOf (now (list .entry))) r (now (groups .exit)) (now (levels .exit)) ⌝ }
+{
+    let mut at: usize = 0;
+    let mut n: usize = 0;
+    while (n < MAX_FILTERS) & (at < list.len()) {
+        groups[n] = word_at(list, at);
+        levels[n] = word_at(list, at + 1);
+        let count = word_at(list, at + 2);
+        at += HEAD_WORDS + TEST_WORDS * (count as usize);
+        n += 1;
+    }
+    n
+}
+
+// Whether filter j ranks above filter i.
+fn ranks_above(groups: &[u32], levels: &[u32], j: usize, i: usize) -> bool
+    ensures { λ r. ⌜ r ≡ aboveBy (now (groups .entry)) (now (levels .entry)) j i ⌝ }
+{
+    let upper = word_at(levels, j);
+    let lower = word_at(levels, i);
+    (word_at(groups, j) == word_at(groups, i)) & ((lower < upper) | ((upper == lower) & (j < i)))
+}
+
+// The set of those among the first n filters that rank above filter i. n is at most 32, so each has its bit.
+fn above_set(groups: &[u32], levels: &[u32], n: usize, i: usize) -> u32
+    requires { ⌜ n ≤ maxFilters ⌝ }
+    ensures { λ r. ⌜ r ≡ setOf (tally n (λ j. aboveBy (now (groups .entry)) (now (levels .entry)) j i)) ⌝ }
+{
+    let mut set: u32 = 0;
+    let mut j: usize = 0;
+    while j < n {
+        set = sets::put(set, j as u32, ranks_above(groups, levels, j, i));
+        j += 1;
+    }
+    set
+}
+
+// The same where filter i may be beyond the list: nothing ranks above what is not there.
+fn rank_set(groups: &[u32], levels: &[u32], n: usize, i: usize) -> u32
+    requires { ⌜ n ≤ maxFilters ⌝ }
+    ensures { λ r. ⌜ r ≡ rankSetBy (now (groups .entry)) (now (levels .entry)) n i ⌝ }
+{
+    if i < n {
+        above_set(groups, levels, n, i)
+    } else {
+        0
+    }
+}
+
+fn write_ranks(groups: &[u32], levels: &[u32], n: usize, sets: &mut [u32])
+    requires { ⌜ (n ≤ maxFilters) × (length (now sets) ≡ maxFilters) ⌝ }
+    ensures { λ r. ⌜ now (sets .exit) ≡ tally maxFilters (rankSetBy (now (groups .entry)) (now (levels .entry)) n) ⌝ }
+{
+    let mut i: usize = 0;
+    while i < MAX_FILTERS {
+        sets[i] = rank_set(groups, levels, n, i);
+        i += 1;
+    }
+}
+
+// Writes for each filter the set of those that rank above it, so that ranks are worked out once for a list.
+pub fn rank_sets(list: &[u32], sets: &mut [u32; MAX_FILTERS])
+    ensures { λ r. ⌜ now (sets .exit) ≡ rankSets (filtersOf (now (list .entry))) ⌝ }
+{
+    let mut groups = [0u32; MAX_FILTERS];
+    let mut levels = [0u32; MAX_FILTERS];
+    let n = heads(list, &mut groups, &mut levels);
+    write_ranks(&groups, &levels, n, sets);
 }

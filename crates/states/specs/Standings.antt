@@ -1,21 +1,25 @@
 -- What a state says of one filter: after a division, after closing, at the start. With these three every law is about one filter at a time.
+--   factBy o q      the fact that the question q gives at the outcome o
 --   divided o q s   the state s once the question q came to o, not yet closed
 use Prim.Native.Nat.{ℕ, zero, suc, _+_, _≤_, _<_}
 use mathlib.Core.Path.{_≡_, refl, sym, ap, _∙_}
-use mathlib.Core.Bool.{Bool, true, false, cond, not, _&&_}
+use mathlib.Core.Bool.{Bool, true, false, cond, _&&_}
 use mathlib.Core.List.{List, [], _∷_, map}
 use native.Mathlib.Nat.{add-zero, zero-add, not-suc-le-zero, le-of-suc-le-suc}
 use native.Mathlib.Omega.{arith}
-use lib.ListN.{length, getD, length-map, List·getD-map, List·getD-eq-default}
+use lib.ListN.{length, length-map, List·getD-map, List·getD-eq-default}
+use Rattle.residue.specs.Facts.{factOf}
+use Rattle.residue.specs.Choice.{both, first, second}
 use Rattle.residue.specs.declared.Fact.{Fact}
 use Rattle.residue.specs.declared.Outcome.{Outcome}
+use Rattle.fields.specs.Widths.{full}
 use Rattle.lists.specs.Filters.{Item, Filter}
-use Rattle.sets.specs.Sets.{some}
 use Rattle.sets.specs.Laws.{some-true, some-where}
 use Rattle.lists.specs.Ranks.{testsOf, above}
-use Rattle.states.specs.States.{Standing, out, left, State, standing, isHeld, isOut, cutStanding, beaten, closedFrom, closed, allLeft, start, stepBy}
-use Rattle.states.specs.Assumed.{both, first, second}
-use Rattle.states.specs.Dividing.{factBy}
+use Rattle.states.specs.States.{out, left, State, standing, isHeld, cutStanding, beaten, closedFrom, closed, allLeft, start, stepBy}
+
+abbrev pub factBy : Outcome → Item → Fact
+factBy o q = factOf (full (q .field)) o (q .test)
 
 unfoldable pub divided : Outcome → Item → State → State
 divided o q s = map (cutStanding (q .field) (factBy o q)) s

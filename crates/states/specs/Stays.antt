@@ -1,20 +1,18 @@
 -- What a step never takes back: a sure filter stays sure and an out filter stays out, whatever the outcome. Closed states stay closed.
-use Prim.Native.Nat.{ℕ, zero, suc, _+_, _≤_, _<_}
-use mathlib.Core.Path.{_≡_, refl, sym, ap, _∙_}
+use Prim.Native.Nat.{ℕ, _≤_}
+use mathlib.Core.Path.{_≡_, refl, _∙_}
 use mathlib.Core.Bool.{Bool, true, false, cond, false≢true}
 use mathlib.Core.List.{List, [], _∷_, map}
-use native.Mathlib.Nat.{not-suc-le-zero, le-of-suc-le-suc}
 use lib.ListN.{length}
+use Rattle.residue.specs.Choice.{by-cond, never}
 use Rattle.residue.specs.declared.Reading.{Reading}
 use Rattle.residue.specs.declared.Fact.{Fact}
 use Rattle.residue.specs.declared.Outcome.{Outcome}
 use Rattle.lists.specs.Filters.{Item, Filter}
-use Rattle.lists.specs.Ranks.{above}
-use Rattle.states.specs.States.{Standing, out, left, State, standing, isHeld, isOut, cut, cutStanding, beaten, closed, allLeft, start, Question, nothing, ask, questionOf, stepBy, sure}
-use Rattle.states.specs.Runs.{wayOf, advanceAt, advance, run}
-use Rattle.states.specs.Assumed.{by-cond, never}
-use Rattle.states.specs.Dividing.{factBy}
-use Rattle.states.specs.Standings.{divided, step-closes, standing-divided, standing-closed, beaten-where, where-beaten}
+use Rattle.states.specs.States.{Standing, out, left, State, standing, isHeld, isOut, cut, cutStanding, beaten, closed, allLeft, start, stepBy, sure}
+use Rattle.states.specs.Runs.{wayOf, run}
+use Rattle.states.specs.Standings.{factBy, divided, step-closes, standing-divided, standing-closed, beaten-where, where-beaten, length-step, length-start}
+use Rattle.states.specs.Keeps.{run-keeps, run-more}
 use Rattle.states.specs.Sure.{clash, not-held-out, Shut, sure-held, sure-above, held-sure}
 
 -- ---- closing
@@ -75,10 +73,10 @@ sure-not-beaten : (fs : List Filter) (o : Outcome) (q : Item) (s : State) (i : �
 sure-not-beaten fs o q s i e =
     never (beaten fs (divided o q s) i)
     (λ b.
-      let w = beaten-where fs (divided o q s) i b in
-      clash (isOut (standing (divided o q s) (w .0)))
-      (out-divided o q s (w .0) (sure-above fs s i e (w .0) (w .1) (w .2)))
-      (not-held-out (standing (divided o q s) (w .0)) (w .3)))
+    let w = beaten-where fs (divided o q s) i b in
+    clash (isOut (standing (divided o q s) (w .0)))
+    (out-divided o q s (w .0) (sure-above fs s i e (w .0) (w .1) (w .2)))
+    (not-held-out (standing (divided o q s) (w .0)) (w .3)))
 
 sure-held-stays : (fs : List Filter) (o : Outcome) (q : Item) (s : State) (i : ℕ) → sure fs s i ≡ true → isHeld (standing (stepBy fs o q s) i) ≡ true
 sure-held-stays fs o q s i e =
@@ -90,35 +88,17 @@ sure-stays fs o q s i e =
 
 -- ---- along the path of a frame
 
--- What each step keeps, the path keeps.
-module _ (fs : List Filter) (r : ℕ → Reading) (P : State → Type 0) (kept : (o : Outcome) (q : Item) (s : State) → P s → P (stepBy fs o q s)) where
-  advanceAt-keeps : (a : Question) (s : State) → P s → P (advanceAt fs r a s)
-  unfolding advanceAt
-  advanceAt-keeps nothing s p = p
-  advanceAt-keeps (ask q) s p = kept (wayOf r q) q s p
-
-  advance-keeps : (s : State) → P s → P (advance fs r s)
-  unfolding advance
-  advance-keeps s p = advanceAt-keeps (questionOf s) s p
-
-  pub run-keeps : (n : ℕ) (s : State) → P s → P (run fs r n s)
-  unfolding run
-  run-keeps zero s p = p
-  run-keeps (suc n) s p = run-keeps n (advance fs r s) (advance-keeps s p)
-
-  pub run-stays-so : (n m : ℕ) (s : State) → n ≤ m → P (run fs r n s) → P (run fs r m s)
-  unfolding run
-  run-stays-so zero m s l p = run-keeps m s p
-  run-stays-so (suc n) zero s l p = absurd (not-suc-le-zero l)
-  run-stays-so (suc n) (suc m) s l p = run-stays-so n m (advance fs r s) (le-of-suc-le-suc l) p
-
 pub run-shut : (fs : List Filter) (r : ℕ → Reading) (n : ℕ) → Shut fs (run fs r n (start fs))
-run-shut fs r n = run-keeps fs r (Shut fs) (λ o q s _. shut-step fs o q s) n (start fs) (shut-start fs)
+run-shut fs r n = run-keeps fs r (Shut fs) (λ q s _ _. shut-step fs (wayOf r q) q s) n (start fs) (shut-start fs)
 
 pub run-sure-stays :
     (fs : List Filter) (r : ℕ → Reading) (n m : ℕ) (s : State) (i : ℕ) → n ≤ m → sure fs (run fs r n s) i ≡ true → sure fs (run fs r m s) i ≡ true
-run-sure-stays fs r n m s i l e = run-stays-so fs r (λ (x : State). sure fs x i ≡ true) (λ o q x z. sure-stays fs o q x i z) n m s l e
+run-sure-stays fs r n m s i l e = run-more fs r (λ (x : State). sure fs x i ≡ true) (λ q x _ z. sure-stays fs (wayOf r q) q x i z) n m s l e
 
 pub run-out-stays :
     (fs : List Filter) (r : ℕ → Reading) (n m : ℕ) (s : State) (i : ℕ) → n ≤ m → isOut (standing (run fs r n s) i) ≡ true → isOut (standing (run fs r m s) i) ≡ true
-run-out-stays fs r n m s i l e = run-stays-so fs r (λ (x : State). isOut (standing x i) ≡ true) (λ o q x z. out-stays fs o q x i z) n m s l e
+run-out-stays fs r n m s i l e = run-more fs r (λ (x : State). isOut (standing x i) ≡ true) (λ q x _ z. out-stays fs (wayOf r q) q x i z) n m s l e
+
+pub length-run : (fs : List Filter) (r : ℕ → Reading) (n : ℕ) → length (run fs r n (start fs)) ≡ length fs
+length-run fs r n =
+    run-keeps fs r (λ (x : State). length x ≡ length fs) (λ q x _ e. length-step fs (wayOf r q) q x ∙ e) n (start fs) (length-start fs)

@@ -3,32 +3,36 @@
 --   Says fs r x i     what the standing x says of filter i is true, where field n reads r n
 --   Tells fs r s      what the state s says of every filter is true
 --   InWidths r        each reading is one of its field's width
-use Prim.Native.Nat.{ℕ, zero, suc, _+_, _≤_, _<_}
+use Prim.Native.Nat.{ℕ, _-_, _^_}
 use mathlib.Core.Path.{_≡_, refl, sym, ap, ap₂, _∙_, subst}
 use mathlib.Core.Logic.{_⊎_, inl, inr}
-use mathlib.Core.Bool.{Bool, true, false, cond, not, _&&_, false≢true, and-false}
+use mathlib.Core.Bool.{Bool, true, false, _&&_, false≢true, and-false}
 use mathlib.Core.List.{List, [], _∷_, map}
 use native.Mathlib.Omega.{arith}
 use lib.Dec.{ltb, eqb}
 use lib.ListN.{length, length-map}
 use borrow.Author.Tests.{eqb-true, ltb-true, ltb-false}
-use Rattle.residue.specs.Tests.{holdsOf}
+use Rattle.residue.specs.Tests.{holdsOf, wellFormed}
 use Rattle.residue.specs.Facts.{isSo, wellKnown}
 use Rattle.residue.specs.Residues.{residueBy, remains}
+use Rattle.residue.specs.Choice.{by-cond, first, second}
+use Rattle.residue.specs.Relations.{inWidth}
+use Rattle.residue.specs.Laws.{residue-sound, outcome-fact-so}
+use Rattle.residue.specs.declared.Test.{Test}
 use Rattle.residue.specs.declared.Reading.{Reading}
 use Rattle.residue.specs.declared.Fact.{Fact}
-use Rattle.residue.specs.declared.Outcome.{Outcome}
 use Rattle.residue.specs.declared.Residue.{Residue}
 use Rattle.residue.specs.declared.Residue.the-variants.{True, False, Left}
-use Rattle.fields.specs.Widths.{full}
+use Rattle.fields.specs.Widths.{width, full}
+use Rattle.lists.specs.Accepted.{wellItem}
 use Rattle.lists.specs.Filters.{Item, Filter}
 use Rattle.lists.specs.Ranks.{testsOf, above, allHold, fires}
-use Rattle.states.specs.States.{Standing, out, left, State, standing, isHeld, keep, join, cut, cutStanding, beaten, closed, allLeft, start, Question, nothing, ask, questionOf, stepBy}
-use Rattle.states.specs.Runs.{wayOf, advanceAt, advance, run}
-use Rattle.states.specs.Assumed.{by-cond, first, second, inWidth, wellItem, wellItems, wellFilters}
-use Rattle.states.specs.Dividing.{Dividing, factBy}
-use Rattle.states.specs.Standings.{divided, step-closes, standing-divided, standing-closed, standing-all, standing-beyond, beaten-where}
-use Rattle.states.specs.Well.{wellStanding, wellState, well-standing, item-test, item-on, fact-known, well-start, well-question, well-advance}
+use Rattle.states.specs.States.{Standing, out, left, State, standing, isHeld, keep, join, cut, cutStanding, beaten, closed, allLeft, start, stepBy}
+use Rattle.states.specs.Runs.{wayOf, run}
+use Rattle.states.specs.Standings.{factBy, divided, step-closes, standing-divided, standing-closed, standing-all, standing-beyond, beaten-where}
+use Rattle.states.specs.Well.{wellState, item-on, fact-known, well-question, well-step}
+use Rattle.states.specs.Every.{everyItem, everyStanding, every-standing}
+use Rattle.states.specs.Keeps.{run-keeps}
 
 unfoldable pub holdsIn : (ℕ → Reading) → Standing → Bool
 holdsIn r out = false
@@ -46,6 +50,18 @@ Tells fs r s = (i : ℕ) → Says fs r (standing s i) i
 
 abbrev pub InWidths : (ℕ → Reading) → Type 0
 InWidths r = (n : ℕ) → inWidth (full n) (r n) ≡ true
+
+-- ---- residues
+
+full-power : (n : ℕ) → full n ≡ 2 ^ width n - 1
+unfolding full
+full-power n = refl
+
+-- Over the width of field n.
+divide-sound :
+    (n : ℕ) (k : Fact) (t : Test) (x : Reading) → wellKnown (full n) k ≡ true → wellFormed (full n) t ≡ true → inWidth (full n) x ≡ true → isSo k x ≡ true →
+    holdsOf t x ≡ remains (residueBy (full n) k t) x
+divide-sound n k t x = residue-sound (width n) (full n) (full-power n) k t x
 
 -- ---- a held filter fires
 
@@ -104,26 +120,26 @@ module _ (fs : List Filter) (r : ℕ → Reading) where
   join-holds n False x = refl
   join-holds n (Left u) x = keep-holds (record { field = n; test = u }) x
 
-  module _ (𝒟 : Dividing) (w : InWidths r) where
+  module _ (w : InWidths r) where
     cut-holds :
-        (n : ℕ) (k : Fact) (ts : List Item) → wellKnown (full n) k ≡ true → isSo k (r n) ≡ true → wellItems ts ≡ true → holdsIn r (cut n k ts) ≡ allHold r ts
-    unfolding cut holdsIn allHold wellItems
+        (n : ℕ) (k : Fact) (ts : List Item) → wellKnown (full n) k ≡ true → isSo k (r n) ≡ true → everyItem wellItem ts ≡ true → holdsIn r (cut n k ts) ≡ allHold r ts
+    unfolding cut holdsIn allHold everyItem
     cut-holds n k [] g so h = refl
     cut-holds n k (t ∷ ts) g so h =
-        let ht = first (wellItem t) (wellItems ts) h in
-        let hs = cut-holds n k ts g so (second (wellItem t) (wellItems ts) h) in
+        let ht = first (wellItem t) (everyItem wellItem ts) h in
+        let hs = cut-holds n k ts g so (second (wellItem t) (everyItem wellItem ts) h) in
         by-cond (λ (x : Standing). holdsIn r x ≡ (holdsOf (t .test) (r (t .field)) && allHold r ts)) (eqb (t .field) n)
         (λ e.
-          join-holds n (residueBy (full n) k (t .test)) (cut n k ts) ∙
-          ap₂ (λ (a b : Bool). a && b)
-          (sym (ap (λ (m : ℕ). holdsOf (t .test) (r m)) (eqb-true (t .field) n e) ∙ 𝒟 .sound n k (t .test) (r n) g (item-on n t e ht) (w n) so))
-          hs)
+        join-holds n (residueBy (full n) k (t .test)) (cut n k ts) ∙
+        ap₂ (λ (a b : Bool). a && b)
+        (sym (ap (λ (m : ℕ). holdsOf (t .test) (r m)) (eqb-true (t .field) n e) ∙ divide-sound n k (t .test) (r n) g (item-on n t e ht) (w n) so))
+        hs)
         (λ _. keep-holds t (cut n k ts) ∙ ap (λ (b : Bool). holdsOf (t .test) (r (t .field)) && b) hs)
 
     cut-says :
-        (n : ℕ) (k : Fact) (x : Standing) (i : ℕ) → wellKnown (full n) k ≡ true → isSo k (r n) ≡ true → wellStanding x ≡ true → Says fs r x i →
+        (n : ℕ) (k : Fact) (x : Standing) (i : ℕ) → wellKnown (full n) k ≡ true → isSo k (r n) ≡ true → everyStanding wellItem x ≡ true → Says fs r x i →
         Says fs r (cutStanding n k x) i
-    unfolding cutStanding wellStanding
+    unfolding cutStanding everyStanding
     cut-says n k out i g so h t = t
     cut-says n k (left ts) i g so h t = says-so (cut n k ts) i (t ∙ sym (cut-holds n k ts g so h))
 
@@ -135,21 +151,16 @@ module _ (fs : List Filter) (r : ℕ → Reading) where
         rw (step-closes fs o q s)
         (tells-closed (divided o q s)
         (λ i.
-          rw (standing-divided o q s i)
-          (cut-says n (factBy o q) (standing s i) i (fact-known 𝒟 o q hq) (𝒟 .so n (q .test) (r n) (item-test q hq) (w n)) (well-standing s i h) (t i))))
+        rw (standing-divided o q s i)
+        (cut-says n (factBy o q) (standing s i) i (fact-known o q hq) (outcome-fact-so (full n) (q .test) (r n) (w n)) (every-standing wellItem s i h) (t i))))
 
     -- ---- the path of the frame
 
-    tells-advanceAt : (a : Question) (s : State) → questionOf s ≡ a → wellState s ≡ true → Tells fs r s → Tells fs r (advanceAt fs r a s)
-    unfolding advanceAt
-    tells-advanceAt nothing s e h t = t
-    tells-advanceAt (ask q) s e h t = tells-step q s (well-question s q h e) h t
-
-    pub tells-advance : (s : State) → wellState s ≡ true → Tells fs r s → Tells fs r (advance fs r s)
-    unfolding advance
-    tells-advance s h t = tells-advanceAt (questionOf s) s refl h t
+    -- A well-formed state that tells the truth goes to one.
+    good-run : (n : ℕ) (s : State) → (wellState s ≡ true) × Tells fs r s → (wellState (run fs r n s) ≡ true) × Tells fs r (run fs r n s)
+    good-run n s g =
+        run-keeps fs r (λ (x : State). (wellState x ≡ true) × Tells fs r x)
+        (λ q x e g. (well-step fs (wayOf r q) q x (g .0), tells-step q x (well-question x q (g .0) e) (g .0) (g .1))) n s g
 
     pub tells-run : (n : ℕ) (s : State) → wellState s ≡ true → Tells fs r s → Tells fs r (run fs r n s)
-    unfolding run
-    tells-run zero s h t = t
-    tells-run (suc n) s h t = tells-run n (advance fs r s) (well-advance 𝒟 fs r s h) (tells-advance s h t)
+    tells-run n s h t = good-run n s (h, t) .1

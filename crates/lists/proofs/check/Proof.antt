@@ -1,6 +1,7 @@
 -- `lists::check` meets its contract. The invariant: reading on from here gives what reading the whole list gives.
 -- The measure is the number of words left.
 -- Assumes nothing.
+use Rattle.lists.specs.Filters.{maxFilters, maxTests}
 use Prim.Native.Nat.{ℕ, _+_, _-_, _*_, _≤_, _<_}
 use mathlib.Core.Path.{_≡_, refl, sym, ap, _∙_}
 use native.Mathlib.Omega.{arith}
@@ -15,8 +16,8 @@ use Rattle.lists.proofs.check.Tie as tie
 
 abbrev Inv-loop : tie.InvT-loop
 Inv-loop list at₀ filters₀ tests₀ at filters tests =
-    (at ≤ length list) × (filters ≤ 32) × (tests ≤ 8 * filters) ×
-    (listedFrom (32 - filters) filters tests (drop at list) ≡ listed list)
+    (at ≤ length list) × (filters ≤ maxFilters) × (tests ≤ maxTests * filters) ×
+    (listedFrom (maxFilters - filters) filters tests (drop at list) ≡ listed list)
 
 abbrev μ-loop : tie.MeasureT-loop
 μ-loop list at₀ filters₀ tests₀ at filters tests = length list - at
@@ -36,6 +37,9 @@ passed-here c =
 loop-holds : tie.Need-loop-holds Inv-loop μ-loop
 unfolding listed
 loop-holds c = (omega arith, omega arith, omega arith, refl)
+
+cast-if1 : tie.Need-cast-if1 Inv-loop μ-loop
+cast-if1 c = omega arith
 
 returns : tie.Need-returns Inv-loop μ-loop
 returns c =
@@ -101,7 +105,7 @@ loop-again c =
     let p = d .before .before .before .before .loop in
     let l = d .before .before .before .before .before .before .args .list .now in
     let q = passed-here (c .before) in
-    let h : p .filters < 32 = omega (arith, p .inv .1, d .before .before .if1 .left) in (
+    let h : p .filters < maxFilters = omega (arith, p .inv .1, d .before .before .if1 .left) in (
       q .whole,
       omega arith,
       omega (arith, p .inv .2, q .count),
@@ -112,7 +116,7 @@ returns-3 : tie.Need-returns-3 Inv-loop μ-loop
 returns-3 c =
     let p = c .before .loop in
     let l = c .before .before .before .args .list .now in
-    sym (ap (listedFrom (32 - p .filters) (p .filters) (p .tests)) (drop-of-length-le l (c .loop-test .left)) ∙ listed-end (32 - p .filters) (p .filters) (p .tests)) ∙ p .inv .3
+    sym (ap (listedFrom (maxFilters - p .filters) (p .filters) (p .tests)) (drop-of-length-le l (c .loop-test .left)) ∙ listed-end (maxFilters - p .filters) (p .filters) (p .tests)) ∙ p .inv .3
 
 pub check-spec : {M : Type 1} → statement M
 check-spec =
@@ -121,6 +125,7 @@ check-spec =
     Inv-loop
     μ-loop
     loop-holds
+    cast-if1
     returns
     mul-filter-fault
     sub-filter-fault
