@@ -49,11 +49,15 @@ masked-at-least-requires c κs = search needs
 
 returns : tie.Need-returns
 unfolding fromMasked
-returns c = rw (c .pick .ensures, c .before .reduced-equal .ensures, c .before .before .without2 .ensures, c .before .before .before .without .ensures, c .before .before .before .before .before .t .given .1)
+returns c =
+    let s = c .before .before .before in
+    rw (c .pick .ensures, c .before .reduced-equal .ensures, c .before .before .without2 .ensures, s .without .ensures, s .before .before .t .given .1)
 
 returns-2 : tie.Need-returns-2
 unfolding fromMasked
-returns-2 c = rw (c .pick2 .ensures, c .before .reduced-differs .ensures, c .before .before .without4 .ensures, c .before .before .before .without3 .ensures, c .before .before .before .before .before .t2 .given .1)
+returns-2 c =
+    let s = c .before .before .before in
+    rw (c .pick2 .ensures, c .before .reduced-differs .ensures, c .before .before .without4 .ensures, s .without3 .ensures, s .before .before .t2 .given .1)
 
 returns-3 : tie.Need-returns-3
 returns-3 c = rw (c .masked-at-most .ensures, c .before .before .t3 .given .1)

@@ -41,19 +41,27 @@ from-at-least-requires c κs = search needs
 
 returns-2 : tie.Need-returns-2
 unfolding residueBy
-returns-2 c = rw (c .from-equal .ensures, c .before .before .before .before .before .k .given .1, c .before .before .f .given .1)
+returns-2 c =
+    let s = c .before .before in
+    rw (c .from-equal .ensures, s .before .before .before .k .given .1, s .f .given .1)
 
 returns-3 : tie.Need-returns-3
 unfolding residueBy
-returns-3 c = rw (c .from-differs .ensures, c .before .before .before .before .before .k .given .1, c .before .before .f2 .given .1)
+returns-3 c =
+    let s = c .before .before in
+    rw (c .from-differs .ensures, s .before .before .before .k .given .1, s .f2 .given .1)
 
 returns-4 : tie.Need-returns-4
 unfolding residueBy
-returns-4 c = rw (c .from-at-most .ensures, c .before .before .before .before .before .k .given .1, c .before .before .f3 .given .1)
+returns-4 c =
+    let s = c .before .before in
+    rw (c .from-at-most .ensures, s .before .before .before .k .given .1, s .f3 .given .1)
 
 returns-5 : tie.Need-returns-5
 unfolding residueBy
-returns-5 c = rw (c .from-at-least .ensures, c .before .before .before .before .before .k .given .1, c .before .before .f4 .given .1)
+returns-5 c =
+    let s = c .before .before in
+    rw (c .from-at-least .ensures, s .before .before .before .k .given .1, s .f4 .given .1)
 
 pub residue-of-spec : {M : Type 1} → statement M
 residue-of-spec =
