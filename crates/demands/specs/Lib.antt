@@ -1,2 +1,4 @@
 pub mod Walks
 pub mod Follows
+pub mod Faults
+pub mod Builds
