@@ -3,3 +3,5 @@ pub mod Follows
 pub mod Faults
 pub mod Builds
 pub mod Settled
+pub mod Paths
+pub mod Demands

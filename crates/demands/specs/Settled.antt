@@ -102,6 +102,14 @@ out-shown fs s k = go (questionOf s)
     go nothing = refl
     go (ask q) = refl
 
+asked-shown : (fs : List Filter) (s : State) (k : ℕ) → shownAt fs s k .asked ≡ k
+unfolding shownAt endedBy
+asked-shown fs s k = go (questionOf s)
+  where
+    go : (a : Question) → endedBy a (sureSet fs s) (outSet fs s) k .asked ≡ k
+    go nothing = refl
+    go (ask q) = refl
+
 done-shown : (fs : List Filter) (s : State) (k : ℕ) → questionOf s ≡ nothing → shownAt fs s k .ended ≡ 1
 unfolding shownAt endedBy
 done-shown fs s k e = rw e
@@ -180,3 +188,8 @@ module _ (l t s : List ℕ) (built : outcome l t s .answer .refusal ≡ 0) (f : 
       go true c x y e = inl (sure-member a i ∙ both _ _ here x)
       go false true x y e = inr (out-member a i ∙ both _ _ here y)
       go false false x y e = absurd (false≢true (sym e ∙ rw here))
+
+  pub asked-few : (a : ℕ) → (walked l t s f p a .asked ≤ a) × (walked l t s f p a .asked ≤ testsIn fs)
+  asked-few a =
+      let count : walked l t s f p a .asked ≡ askedIn fs r a (start fs) = ap (λ (w : Shown). w .asked) (exact a) ∙ asked-shown fs (after fs r a) _ in
+      (omega (arith, truth a .asked-allowed), omega (arith, truth a .asked-few))
