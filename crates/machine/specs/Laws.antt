@@ -1,5 +1,5 @@
 -- The machine of a well-formed list is lawful, so its states are met each once, and they are exactly those that outcomes reach from the start.
---   Good fs s   a state of the list fs: a standing for each filter, every remaining test well formed
+--   Good fs s   a state of the list fs: a standing for each filter, every remaining test well formed, no more tests than a filter may have
 use Prim.Native.Nat.{ℕ, suc, _+_, _≤_, _<_}
 use native.Mathlib.Omega.{arith}
 use mathlib.Core.Path.{_≡_, refl, sym, ap, _∙_, subst}
@@ -20,10 +20,12 @@ use Rattle.automaton.specs.Lawful.{Lawful, Reached, Distinct}
 use Rattle.automaton.specs.Reaching.{all-each-good, all-good, all-closed, all-start, all-reached, reached-all, all-distinct, all-place-state, all-place-start}
 use Rattle.automaton.specs.Lists.{Each}
 use Rattle.machine.specs.Box.{asksSomething, questionWords, boxOf, statesOf}
+use Rattle.machine.specs.Few.{Few, few-start, few-step}
 
 pub record Good (fs : List Filter) (s : State) : Type 0 where
   pub well : wellState s ≡ true
   pub each : length s ≡ length fs
+  pub few : Few s
 
 question-four : (a : Question) → length (questionWords a) ≡ 4
 unfolding questionWords itemWords
@@ -42,11 +44,11 @@ module _ (fs : List Filter) where
   pub good-step : (o : Outcome) (s : State) → Good fs s → Good fs (step fs o s)
   good-step o s g =
       step-keeps fs (Good fs)
-      (λ o q x _ g. record { well = well-step fs o q x (g .well); each = length-step fs o q x ∙ g .each })
+      (λ o q x _ g. record { well = well-step fs o q x (g .well); each = length-step fs o q x ∙ g .each; few = few-step fs o q x (g .few) })
       o s g
 
   pub good-start : wellFilters fs ≡ true → Good fs (start fs)
-  good-start h = record { well = well-start fs h; each = length-start fs }
+  good-start h = record { well = well-start fs h; each = length-start fs; few = few-start fs h }
 
   box-falls : (o : Outcome) (s : State) → Good fs s → asksSomething (questionOf s) ≡ true → remaining (step fs o s) < remaining s
   box-falls o s g e =
