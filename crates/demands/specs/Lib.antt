@@ -5,3 +5,4 @@ pub mod Builds
 pub mod Settled
 pub mod Paths
 pub mod Demands
+pub mod Tight
