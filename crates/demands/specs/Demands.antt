@@ -12,8 +12,7 @@ use lib.ListN.{length}
 use Rattle.residue.specs.declared.Outcome.{Outcome}
 use Rattle.fields.specs.Fields.{field}
 use Rattle.sets.specs.Sets.{member}
-use Rattle.lists.specs.Filters.{Item, Filter, filtersOf, testsIn}
-use Rattle.lists.specs.Accepted.{wellFilters}
+use Rattle.lists.specs.Filters.{Item, filtersOf, testsIn}
 use Rattle.lists.specs.Ranks.{matches}
 use Rattle.lists.specs.Refusals.{listed}
 use Rattle.lists.specs.Laws.{accepted-well}

@@ -1,12 +1,12 @@
 -- A walk over a table that has the records of a list at its front goes through the records of the states on the path.
 --   shownAt fs s k   what a walk answers that ends at the state s with k questions asked: done where s has no question, else stopped
-use Prim.Native.Nat.{ℕ, zero, suc, _+_, _*_, _≤_, _<_}
+use Prim.Native.Nat.{ℕ, zero, suc, _+_, _*_, _<_}
 use native.Mathlib.Omega.{arith}
 use native.Mathlib.Nat.{add-zero}
 use mathlib.Core.Path.{_≡_, refl, sym, ap, _∙_, subst}
-use mathlib.Core.Bool.{Bool, true, false, cond, not, _&&_, _||_}
-use mathlib.Core.List.{List, [], _∷_, _++_}
-use lib.Dec.{ltb, leb, eqb, lit<}
+use mathlib.Core.Bool.{Bool, true, false, cond}
+use mathlib.Core.List.{List, _++_}
+use lib.Dec.{ltb, eqb, lit<}
 use lib.ListN.{length, getD, List·getD-append}
 use borrow.Author.Tests.{ltb-true, lt-ltb, lt-leb}
 use Rattle.residue.specs.Tests.{holds}
@@ -18,9 +18,9 @@ use Rattle.residue.specs.declared.Reading.the-variants as R
 use Rattle.residue.specs.declared.Outcome.{Outcome}
 use Rattle.residue.specs.declared.Outcome.the-variants.{Holds, Fails, Absent}
 use Rattle.fields.specs.Widths.{fieldCount}
-use Rattle.lists.specs.Accepted.{wellFilters, wellItem, kindOf, maskOf, valueOf, itemWords}
+use Rattle.lists.specs.Accepted.{wellFilters, kindOf, maskOf, valueOf, itemWords}
 use Rattle.lists.specs.Filters.{Item, Filter, testOf}
-use Rattle.states.specs.States.{State, Question, nothing, ask, questionOf, start, step, stepBy, sureSet, outSet}
+use Rattle.states.specs.States.{State, Question, nothing, ask, questionOf, step, sureSet, outSet}
 use Rattle.states.specs.Runs.{wayOf, advance, run, askedIn}
 use Rattle.states.specs.Well.{item-field}
 use Rattle.states.specs.Laws.{by-question, well-question, step-ask, advance-ask, asked-ask, asked-none, run-stays}
@@ -28,9 +28,9 @@ use Rattle.automaton.specs.Machines.{meets, placeOf, recordOf, recordsOf}
 use Rattle.automaton.specs.Placing.{nextWord}
 use Rattle.automaton.specs.Places.{place-below}
 use Rattle.automaton.specs.Records.{records-long, records-word, record-question, record-next, record-sets}
-use Rattle.tables.specs.Tables.{wordOf, kindAt, fieldAt, maskAt, valueAt, holdsAt, failsAt, absentAt, sureAt, outAt}
+use Rattle.tables.specs.Tables.{wordOf, kindAt, fieldAt, maskAt, valueAt, holdsAt, failsAt, sureAt, outAt}
 use Rattle.machine.specs.Box.{asksSomething, questionWords, boxOf, statesOf, recordsIn}
-use Rattle.machine.specs.Laws.{box-lawful, Good, states-good, state-good, states-closed, states-place}
+use Rattle.machine.specs.Laws.{box-lawful, states-good, state-good, states-closed, states-place}
 use Rattle.matcher.specs.Walk.{Shown, done, stopped, damaged, nextBy, nextOf, walkFrom}
 use Rattle.demands.specs.Walks.{walk-ends, walk-stops, walk-goes}
 

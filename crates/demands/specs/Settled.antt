@@ -1,14 +1,14 @@
 -- A frame's walk over a built table, and its sets filter by filter.
 --   Legal f p        a frame that is not refused, of bytes, and a box port
 --   walked l t s ..  the walk over what building the list l left in the table
-use Prim.Native.Nat.{ℕ, _+_, _*_, _≤_, _<_, _^_, _/_, min}
+use Prim.Native.Nat.{ℕ, _*_, _≤_, _<_, _^_, _/_}
 use native.Mathlib.Omega.{arith}
-use native.Mathlib.Nat.{zero-add, min-le-left, min-le-right}
-use mathlib.Core.Path.{_≡_, refl, sym, ap, _∙_, subst}
+use native.Mathlib.Nat.{zero-add, min-le-right}
+use mathlib.Core.Path.{_≡_, refl, sym, ap, _∙_}
 use mathlib.Core.Logic.{_⊎_, inl, inr}
-use mathlib.Core.Bool.{Bool, true, false, cond, not, _&&_, false≢true}
-use mathlib.Core.List.{List, [], _∷_, _++_}
-use lib.Dec.{ltb, leb}
+use mathlib.Core.Bool.{Bool, true, false, not, _&&_, false≢true}
+use mathlib.Core.List.{List, _++_}
+use lib.Dec.{ltb}
 use lib.ListN.{length, drop, length-append}
 use borrow.Author.Tests.{lt-ltb}
 use Rattle.residue.specs.Choice.{both, first, second}
@@ -24,7 +24,7 @@ use Rattle.lists.specs.Accepted.{wellFilters}
 use Rattle.lists.specs.Filters.{Filter, filtersOf, testsIn}
 use Rattle.lists.specs.Ranks.{fires, matches}
 use Rattle.states.specs.States.{State, Question, nothing, ask, questionOf, standing, isOut, start, sure, isOpen, sureSet, outSet}
-use Rattle.states.specs.Runs.{run, askedIn}
+use Rattle.states.specs.Runs.{askedIn}
 use Rattle.states.specs.Laws.{InWidths, after, member-sure, member-out, PathTruth, path-truth}
 use Rattle.automaton.specs.Places.{place-below}
 use Rattle.automaton.specs.Records.{records-long}

@@ -1,7 +1,7 @@
 -- One turn of a walk through any table: it ends at a final record, stops where the allowance is used, else goes on to the next record.
 use Prim.Native.Nat.{ℕ, zero, suc, _+_}
-use mathlib.Core.Path.{_≡_, refl}
-use mathlib.Core.Bool.{Bool, true, false}
+use mathlib.Core.Path.{_≡_}
+use mathlib.Core.Bool.{true, false}
 use mathlib.Core.List.{List}
 use lib.Dec.{ltb, eqb}
 use Rattle.residue.specs.declared.Reading.{Reading}

@@ -1,18 +1,15 @@
 -- The machine of a well-formed list is lawful, so its states are met each once, and they are exactly those that outcomes reach from the start.
 --   Good fs s   a state of the list fs: a standing for each filter, every remaining test well formed, no more tests than a filter may have
-use Prim.Native.Nat.{ℕ, suc, _+_, _≤_, _<_}
+use Prim.Native.Nat.{suc, _<_}
 use native.Mathlib.Omega.{arith}
-use mathlib.Core.Path.{_≡_, refl, sym, ap, _∙_, subst}
-use mathlib.Core.Bool.{Bool, true, false, cond, _&&_, false≢true}
-use mathlib.Core.List.{List, [], _∷_, map}
-use lib.Dec.{leb}
+use mathlib.Core.Path.{_≡_, refl, _∙_}
+use mathlib.Core.Bool.{true, false≢true}
+use mathlib.Core.List.{List}
 use lib.ListN.{length, getD}
-use borrow.Author.Tests.{leb-true, le-leb}
-use Rattle.residue.specs.Choice.{both, first, second}
 use Rattle.residue.specs.declared.Outcome.{Outcome}
 use Rattle.lists.specs.Accepted.{itemWords, wellFilters}
-use Rattle.lists.specs.Filters.{Item, Filter, maxTests, testsIn}
-use Rattle.states.specs.States.{State, Question, nothing, ask, questionOf, start, step, stepBy}
+use Rattle.lists.specs.Filters.{Item, Filter, testsIn}
+use Rattle.states.specs.States.{State, Question, nothing, ask, questionOf, start, step}
 use Rattle.states.specs.Laws.{wellState, well-start, well-step, length-start, length-step, start-remaining, step-falls, step-keeps, step-ask, same-state-eq, same-state-refl}
 use Rattle.states.specs.States.{remaining}
 use Rattle.automaton.specs.Machines.{meets, placeOf}
