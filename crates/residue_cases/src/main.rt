@@ -49,151 +49,71 @@ fn run(label: &[u8], full: u32, k: Fact, t: Test) {
     put_residue(residue::residue_of(full, k, t));
 }
 
-// The document's unmarked cases, on an 8-bit field where x & 0xF0 = 0x70 is known.
-fn unmarked() {
-    let k = Fact::Known(Test::Equal(0xF0, 0x70));
-    run(
-        b"x = 5, x & 0xF0 = 0x70 known: ",
-        255,
-        k,
-        Test::Equal(255, 5),
-    );
-    run(b"x <= 4, x & 0xF0 = 0x70 known: ", 255, k, Test::AtMost(4));
-    run(
-        b"x <= 127, x & 0xF0 = 0x70 known: ",
-        255,
-        k,
-        Test::AtMost(127),
-    );
+// A test on an 8-bit field where x & 0xF0 = 0x70 is known.
+fn under_high(label: &[u8], t: Test) {
+    run(label, 255, Fact::Known(Test::Equal(0xF0, 0x70)), t);
 }
 
-// Each bound on both sides of its edge, and what no line settles.
-fn edges() {
-    let k = Fact::Known(Test::Equal(0xF0, 0x70));
+// The document's unmarked cases, then both sides of each edge.
+fn high_known() {
+    io::write_all(STDOUT_FILENO, b"x & 0xF0 = 0x70 known, 8 bits\n");
+    under_high(b"x = 5: ", Test::Equal(255, 5));
+    under_high(b"x <= 4: ", Test::AtMost(4));
+    under_high(b"x <= 127: ", Test::AtMost(127));
+    under_high(b"x <= 111: ", Test::AtMost(111));
+    under_high(b"x <= 112: ", Test::AtMost(112));
+    under_high(b"x <= 126: ", Test::AtMost(126));
+    under_high(b"x >= 127: ", Test::AtLeast(127));
+    under_high(b"x & 0x30 = 0x30: ", Test::Equal(0x30, 0x30));
+    under_high(b"x & 0x3C != 0x34: ", Test::Differs(0x3C, 0x34));
+    under_high(b"x & 0x3C != 0x04: ", Test::Differs(0x3C, 0x04));
+}
+
+// What no line settles, and the absent field.
+fn other_known() {
+    let no_line = Fact::Known(Test::AtLeast(9));
+    let zero = Fact::Known(Test::AtMost(0));
+    let not_zero = Fact::Known(Test::Differs(255, 0));
+    io::write_all(STDOUT_FILENO, b"other facts, 8 bits\n");
+    run(b"x <= 255, x >= 9: ", 255, no_line, Test::AtMost(255));
+    run(b"x = 0, x <= 0: ", 255, zero, Test::Equal(255, 0));
+    run(b"x >= 1, x != 0: ", 255, not_zero, Test::AtLeast(1));
+    run(b"x = 7, absent: ", 255, Fact::Absent, Test::Equal(255, 7));
     run(
-        b"x <= 111, x & 0xF0 = 0x70 known: ",
-        255,
-        k,
-        Test::AtMost(111),
-    );
-    run(
-        b"x <= 112, x & 0xF0 = 0x70 known: ",
-        255,
-        k,
-        Test::AtMost(112),
-    );
-    run(
-        b"x <= 126, x & 0xF0 = 0x70 known: ",
-        255,
-        k,
-        Test::AtMost(126),
-    );
-    run(
-        b"x >= 127, x & 0xF0 = 0x70 known: ",
-        255,
-        k,
-        Test::AtLeast(127),
-    );
-    run(
-        b"x & 0x30 = 0x30, x & 0xF0 = 0x70 known: ",
-        255,
-        k,
-        Test::Equal(0x30, 0x30),
-    );
-    run(
-        b"x & 0x3C != 0x34, x & 0xF0 = 0x70 known: ",
-        255,
-        k,
-        Test::Differs(0x3C, 0x34),
-    );
-    run(
-        b"x & 0x3C != 0x04, x & 0xF0 = 0x70 known: ",
-        255,
-        k,
-        Test::Differs(0x3C, 0x04),
-    );
-    run(
-        b"x = 7, the field absent: ",
-        255,
-        Fact::Absent,
-        Test::Equal(255, 7),
-    );
-    run(
-        b"x != 7, the field absent: ",
+        b"x != 7, absent: ",
         255,
         Fact::Absent,
         Test::Differs(255, 7),
     );
-    run(
-        b"x <= 255, x >= 9 known: ",
-        255,
-        Fact::Known(Test::AtLeast(9)),
-        Test::AtMost(255),
-    );
-    run(
-        b"x = 0, x <= 0 known: ",
-        255,
-        Fact::Known(Test::AtMost(0)),
-        Test::Equal(255, 0),
-    );
-    run(
-        b"x >= 1, x != 0 known: ",
-        255,
-        Fact::Known(Test::Differs(255, 0)),
-        Test::AtLeast(1),
-    );
 }
 
-// On a 32-bit field v' + full passes a word.
+// A test on a 32-bit field where the first byte is known to be 10: v' + full passes a word there.
+fn under_ten(label: &[u8], t: Test) {
+    let ten = Test::Equal(0xFF00_0000, 0x0A00_0000);
+    run(label, 0xFFFF_FFFF, Fact::Known(ten), t);
+}
+
+// What a fact leaves of "the first byte is 10".
+fn of_ten(label: &[u8], k: Test) {
+    let ten = Test::Equal(0xFF00_0000, 0x0A00_0000);
+    run(label, 0xFFFF_FFFF, Fact::Known(k), ten);
+}
+
 fn wide() {
-    let full: u32 = 0xFFFF_FFFF;
-    let k = Fact::Known(Test::Equal(0xFF00_0000, 0x0A00_0000));
-    run(
-        b"x <= 10.255.255.255, x in 10/8 known: ",
-        full,
-        k,
-        Test::AtMost(0x0AFF_FFFF),
-    );
-    run(
-        b"x <= 10.255.255.254, x in 10/8 known: ",
-        full,
-        k,
-        Test::AtMost(0x0AFF_FFFE),
-    );
-    run(
-        b"x >= 11.0.0.0, x in 10/8 known: ",
-        full,
-        k,
-        Test::AtLeast(0x0B00_0000),
-    );
-    run(
-        b"x = 10.1.2.3, x in 10/8 known: ",
-        full,
-        k,
-        Test::Equal(full, 0x0A01_0203),
-    );
-    run(
-        b"x in 10/8, x = 10.1.2.3 known: ",
-        full,
-        Fact::Known(Test::Equal(full, 0x0A01_0203)),
-        Test::Equal(0xFF00_0000, 0x0A00_0000),
-    );
-    run(
-        b"x in 10/8, x >= 10.255.255.255 known: ",
-        full,
-        Fact::Known(Test::AtLeast(0x0AFF_FFFF)),
-        Test::Equal(0xFF00_0000, 0x0A00_0000),
-    );
-    run(
-        b"x in 10/8, x >= 11.0.0.0 known: ",
-        full,
-        Fact::Known(Test::AtLeast(0x0B00_0000)),
-        Test::Equal(0xFF00_0000, 0x0A00_0000),
-    );
+    let one = Test::Equal(0xFFFF_FFFF, 0x0A01_0203);
+    io::write_all(STDOUT_FILENO, b"x in 10/8 known, 32 bits\n");
+    under_ten(b"x <= 10.255.255.255: ", Test::AtMost(0x0AFF_FFFF));
+    under_ten(b"x <= 10.255.255.254: ", Test::AtMost(0x0AFF_FFFE));
+    under_ten(b"x >= 11.0.0.0: ", Test::AtLeast(0x0B00_0000));
+    under_ten(b"x = 10.1.2.3: ", one);
+    io::write_all(STDOUT_FILENO, b"x in 10/8 asked, 32 bits\n");
+    of_ten(b"x = 10.1.2.3: ", one);
+    of_ten(b"x >= 10.255.255.255: ", Test::AtLeast(0x0AFF_FFFF));
+    of_ten(b"x >= 11.0.0.0: ", Test::AtLeast(0x0B00_0000));
 }
 
 fn main() {
-    unmarked();
-    edges();
+    high_known();
+    other_known();
     wide();
 }

@@ -5,11 +5,11 @@
 --   readFilter c            the standing that the words of a filter say, whatever they are
 --   readState n w           the standings that the first n filters' words say
 use Prim.Native.Nat.{ℕ, zero, suc, _+_, _*_, _-_}
-use mathlib.Core.Bool.{Bool, true, false, cond}
+use mathlib.Core.Bool.{cond}
 use mathlib.Core.List.{List, [], _∷_, _++_}
 use lib.Dec.{eqb}
 use lib.ListN.{length, getD, take, drop, replicate}
-use Rattle.lists.specs.Filters.{Item, Filter, maxFilters, maxTests, testWords, itemOf}
+use Rattle.lists.specs.Filters.{Item, maxFilters, maxTests, testWords, itemOf}
 use Rattle.lists.specs.Accepted.{itemWords}
 use Rattle.states.specs.States.{Standing, out, left, State}
 

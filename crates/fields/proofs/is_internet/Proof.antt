@@ -4,7 +4,6 @@
 use borrow.Author.Needs.{needs}
 use borrow.Author.Tests.{lt-leb, le-leb, eq-eqb, ne-eqb}
 use native.Mathlib.Omega.{arith}
-use Prim.Native.Nat.{_-_}
 use mathlib.Core.Bool.{and-false}
 use Rattle.fields.specs.Fields.{internet, version, headerLength, totalLength}
 use Rattle.fields.proofs.is_internet.Statement.{statement}
