@@ -29,7 +29,9 @@ use Rattle.automaton.specs.Placing.{nextWord}
 use Rattle.automaton.specs.Places.{place-below}
 use Rattle.automaton.specs.Records.{records-long, records-word, record-question, record-next, record-sets}
 use Rattle.tables.specs.Tables.{wordOf, kindAt, fieldAt, maskAt, valueAt, holdsAt, failsAt, sureAt, outAt}
-use Rattle.machine.specs.Box.{asksSomething, questionWords, boxOf, statesOf, recordsIn}
+use Rattle.states.specs.Measure.{asks}
+use Rattle.slots.specs.Laws.{questionWords}
+use Rattle.machine.specs.Box.{boxOf, statesOf, recordsIn}
 use Rattle.machine.specs.Laws.{box-lawful, states-good, state-good, states-closed, states-place}
 use Rattle.matcher.specs.Walk.{Shown, done, stopped, damaged, nextBy, nextOf, walkFrom}
 use Rattle.demands.specs.Walks.{walk-ends, walk-stops, walk-goes}
@@ -96,9 +98,9 @@ module _ (fs : List Filter) (h : wellFilters fs ≡ true) (rest : List ℕ) wher
     -- ---- a state that asks
 
     module _ (q : Item) (f : questionOf s ≡ ask q) where
-      asking : asksSomething (questionOf s) ≡ true
-      unfolding asksSomething
-      asking = ap asksSomething f
+      asking : asks (questionOf s) ≡ true
+      unfolding asks
+      asking = ap asks f
 
       item-at : (j : ℕ) → j < 4 → wordOf table (place s) j ≡ getD (itemWords q) j 0
       unfolding questionWords

@@ -1,5 +1,5 @@
 -- The machine of a well-formed list is lawful, so its states are met each once, and they are exactly those that outcomes reach from the start.
---   Good fs s   a state of the list fs: a standing for each filter, every remaining test well formed, no more tests than a filter may have
+--   Good fs s   a state of the list fs: a standing for each filter, every remaining test well formed, and it fits a slot
 use Prim.Native.Nat.{suc, _<_}
 use native.Mathlib.Omega.{arith}
 use mathlib.Core.Path.{_≡_, refl, _∙_}
@@ -16,24 +16,25 @@ use Rattle.automaton.specs.Machines.{meets, placeOf}
 use Rattle.automaton.specs.Lawful.{Lawful, Reached, Distinct}
 use Rattle.automaton.specs.Reaching.{all-each-good, all-good, all-closed, all-start, all-reached, reached-all, all-distinct, all-place-state, all-place-start}
 use Rattle.automaton.specs.Lists.{Each}
-use Rattle.machine.specs.Box.{asksSomething, questionWords, boxOf, statesOf}
-use Rattle.machine.specs.Few.{Few, few-start, few-step}
+use Rattle.states.specs.Measure.{asks}
+use Rattle.slots.specs.Laws.{fitsSlot, fits-start, fits-step, questionWords}
+use Rattle.machine.specs.Box.{boxOf, statesOf}
 
 pub record Good (fs : List Filter) (s : State) : Type 0 where
   pub well : wellState s ≡ true
   pub each : length s ≡ length fs
-  pub few : Few s
+  pub fits : fitsSlot s ≡ true
 
 question-four : (a : Question) → length (questionWords a) ≡ 4
 unfolding questionWords itemWords
 question-four nothing = refl
 question-four (ask q) = refl
 
-pub asked-question : (s : State) → asksSomething (questionOf s) ≡ true → (q : Item) × (questionOf s ≡ ask q)
-unfolding asksSomething
+pub asked-question : (s : State) → asks (questionOf s) ≡ true → (q : Item) × (questionOf s ≡ ask q)
+unfolding asks
 asked-question s e = go (questionOf s) refl e
   where
-    go : (a : Question) → questionOf s ≡ a → asksSomething a ≡ true → (q : Item) × (questionOf s ≡ ask q)
+    go : (a : Question) → questionOf s ≡ a → asks a ≡ true → (q : Item) × (questionOf s ≡ ask q)
     go nothing r e = absurd (false≢true e)
     go (ask q) r e = (q, r)
 
@@ -41,13 +42,13 @@ module _ (fs : List Filter) where
   pub good-step : (o : Outcome) (s : State) → Good fs s → Good fs (step fs o s)
   good-step o s g =
       step-keeps fs (Good fs)
-      (λ o q x _ g. record { well = well-step fs o q x (g .well); each = length-step fs o q x ∙ g .each; few = few-step fs o q x (g .few) })
+      (λ o q x _ g. record { well = well-step fs o q x (g .well); each = length-step fs o q x ∙ g .each; fits = fits-step fs o q x (g .fits) })
       o s g
 
   pub good-start : wellFilters fs ≡ true → Good fs (start fs)
-  good-start h = record { well = well-start fs h; each = length-start fs; few = few-start fs h }
+  good-start h = record { well = well-start fs h; each = length-start fs; fits = fits-start fs h }
 
-  box-falls : (o : Outcome) (s : State) → Good fs s → asksSomething (questionOf s) ≡ true → remaining (step fs o s) < remaining s
+  box-falls : (o : Outcome) (s : State) → Good fs s → asks (questionOf s) ≡ true → remaining (step fs o s) < remaining s
   box-falls o s g e =
       let a = asked-question s e in
       rw (step-ask fs o (a .0) s (a .1)) (step-falls fs o (a .0) s (g .well) (a .1))
@@ -84,7 +85,7 @@ module _ (fs : List Filter) (h : wellFilters fs ≡ true) where
   unfolding statesOf
   state-good = all-good (box-lawful fs) (suc (testsIn fs)) (start fs) (good-start fs h) enough
 
-  pub states-closed : (o : Outcome) (s : State) → meets (boxOf fs) (statesOf fs) s ≡ true → asksSomething (questionOf s) ≡ true → meets (boxOf fs) (statesOf fs) (step fs o s) ≡ true
+  pub states-closed : (o : Outcome) (s : State) → meets (boxOf fs) (statesOf fs) s ≡ true → asks (questionOf s) ≡ true → meets (boxOf fs) (statesOf fs) (step fs o s) ≡ true
   unfolding statesOf
   states-closed = all-closed (box-lawful fs) (suc (testsIn fs)) (start fs) (good-start fs h) enough
 

@@ -1,3 +1,3 @@
 pub mod Box
-pub mod Few
 pub mod Laws
+pub mod Carried
