@@ -66,7 +66,7 @@ module _ (fs : List Filter) where
 
 -- All states of a well-formed list.
 module _ (fs : List Filter) (h : wellFilters fs ≡ true) where
-  enough : remaining (start fs) < suc (testsIn fs)
+  pub enough : remaining (start fs) < suc (testsIn fs)
   enough = omega (arith, start-remaining fs)
 
   pub start-first : placeOf (boxOf fs) (statesOf fs) (start fs) ≡ 0
