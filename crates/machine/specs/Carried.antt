@@ -1,0 +1,47 @@
+-- On the words of slots the machine of a list does what it does on states.
+--   slots-carried   the words of a good state compare, ask, step and read as the state does
+--   slots-placed    so the builder, placing words, places the list's states with their records, or is full where they are more than the slots
+use Prim.Native.Nat.{ℕ, _≤_}
+use mathlib.Core.Path.{_≡_, sym, ap, ap₂, _∙_}
+use mathlib.Core.Bool.{true, cond}
+use mathlib.Core.List.{List, [], _∷_, map}
+use lib.Dec.{leb}
+use lib.ListN.{length}
+use Rattle.residue.specs.declared.Outcome.{Outcome}
+use Rattle.lists.specs.Filters.{Filter, maxFilters, testsIn}
+use Rattle.lists.specs.Accepted.{wellFilters}
+use Rattle.lists.specs.Ranks.{rankSets}
+use Rattle.states.specs.States.{State, start, questionOf, step}
+use Rattle.states.specs.Laws.{step-ask}
+use Rattle.states.specs.Measure.{asks}
+use Rattle.slots.specs.Words.{written}
+use Rattle.slots.specs.Slots.{stepWords}
+use Rattle.slots.specs.Laws.{same-written, asks-written, step-written, question-written, sure-written, out-written}
+use Rattle.automaton.specs.Machines.{recordOf}
+use Rattle.automaton.specs.Placing.{full, room, placeAll}
+use Rattle.automaton.specs.Placed.{memory}
+use Rattle.automaton.specs.Carrying.{Carried, placed-carried}
+use Rattle.machine.specs.Box.{boxOf, statesOf, slotsIn}
+use Rattle.machine.specs.Laws.{Good, good-start, asked-question, box-lawful, enough}
+
+module _ (fs : List Filter) (few : length fs ≤ maxFilters) where
+  step-carries : (o : Outcome) (s : State) → Good fs s → asks (questionOf s) ≡ true → stepWords (length fs) (rankSets fs) o (written s) ≡ written (step fs o s)
+  step-carries o s g e =
+      let a = asked-question s e in
+      step-written fs s (g .each) few (g .fits) o (a .0) (a .1) ∙ sym (ap written (step-ask fs o (a .0) s (a .1)))
+
+  pub slots-carried : Carried (boxOf fs) (slotsIn (length fs) (rankSets fs)) (Good fs) written
+  slots-carried =
+      record {
+        same-carried = λ a b g h. same-written a b (g .each ∙ sym (h .each)) (g .fits) (h .fits);
+        asks-carried = λ s g. asks-written (length fs) s (g .each) (g .fits);
+        step-carried = step-carries;
+        question-carried = λ s g. question-written (length fs) s (g .each) (g .fits);
+        sets-carried = λ s g. ap₂ (λ (x y : ℕ). x ∷ y ∷ []) (sure-written fs s (g .each) few (g .fits)) (out-written fs s (g .each) few (g .fits));
+      }
+
+  pub slots-placed : wellFilters fs ≡ true → (slots : ℕ) →
+      placeAll (slotsIn (length fs) (rankSets fs)) slots (testsIn fs) (written (start fs)) ≡
+      cond (leb (length (statesOf fs)) slots) (room (memory (map written (statesOf fs)) (map (recordOf (boxOf fs) (statesOf fs)) (statesOf fs)))) full
+  unfolding statesOf
+  slots-placed h slots = placed-carried (box-lawful fs) slots-carried slots (testsIn fs) (start fs) (good-start fs h) (enough fs h)
