@@ -6,3 +6,4 @@ pub mod Settled
 pub mod Paths
 pub mod Demands
 pub mod Tight
+pub mod Whole

@@ -1,7 +1,7 @@
 -- A frame's walk over a built table, and its sets filter by filter.
 --   Legal f p        a frame that is not refused, of bytes, and a box port
 --   walked l t s ..  the walk over what building the list l left in the table
-use Prim.Native.Nat.{ℕ, _*_, _≤_, _<_, _^_, _/_}
+use Prim.Native.Nat.{ℕ, _≤_, _<_, _^_, _/_}
 use native.Mathlib.Omega.{arith}
 use native.Mathlib.Nat.{zero-add, min-le-right}
 use mathlib.Core.Path.{_≡_, refl, sym, ap, _∙_}
@@ -26,11 +26,9 @@ use Rattle.lists.specs.Ranks.{fires, matches}
 use Rattle.states.specs.States.{State, Question, nothing, ask, questionOf, standing, isOut, start, sure, isOpen, sureSet, outSet}
 use Rattle.states.specs.Runs.{askedIn}
 use Rattle.states.specs.Laws.{InWidths, after, member-sure, member-out, PathTruth, path-truth}
-use Rattle.automaton.specs.Places.{place-below}
-use Rattle.automaton.specs.Records.{records-long}
 use Rattle.tables.specs.Tables.{recordWords, maxSlots, slotsOf}
-use Rattle.machine.specs.Box.{boxOf, statesOf, recordsIn}
-use Rattle.machine.specs.Laws.{box-lawful, states-good, start-met, start-first}
+use Rattle.machine.specs.Box.{statesOf, recordsIn}
+use Rattle.machine.specs.Laws.{states-some, records-size, start-met, start-first}
 use Rattle.matcher.specs.Walk.{maxFrame, Shown, walkFrom, walk}
 use Rattle.matcher.specs.Laws.{walk-fits}
 use Rattle.builder.specs.Outcome.{Left, placed, outcome}
@@ -65,21 +63,14 @@ unfolding slotsOf
 slots-words t m l = omega (arith, min-le-right (length t / recordWords) maxSlots)
 
 module _ (fs : List Filter) (h : wellFilters fs ≡ true) where
-  states-some : 0 < length (statesOf fs)
-  states-some = omega (arith, place-below (boxOf fs) (statesOf fs) (start fs) (start-met fs h))
-
-  records-size : length (recordsIn fs) ≡ 9 * length (statesOf fs)
-  unfolding recordsIn
-  records-size = records-long (box-lawful fs) (statesOf fs) (states-good fs h)
-
   walk-placed :
       (t rest f : List ℕ) (p a : ℕ) → length (statesOf fs) ≤ slotsOf t → length f ≤ maxFrame →
       walk f p (recordsIn fs ++ rest) (length (statesOf fs)) a ≡ shownAt fs (after fs (field f p) a) (askedIn fs (field f p) a (start fs))
   walk-placed t rest f p a room short =
       let m = length (statesOf fs) in
       let w = recordsIn fs ++ rest in
-      walk-fits f p w m a short (λ (z : m ≡ 0). omega (arith, states-some)) (slots-words t m room)
-      (omega (arith, length-append (recordsIn fs) rest, records-size))
+      walk-fits f p w m a short (λ (z : m ≡ 0). omega (arith, states-some fs h)) (slots-words t m room)
+      (omega (arith, length-append (recordsIn fs) rest, records-size fs h))
       ∙ ap (walkFrom w m (field f p) a 0) (sym (start-first fs h))
       ∙ walk-follows fs h rest (field f p) a 0 (start fs) (start-met fs h)
       ∙ ap (shownAt fs (after fs (field f p) a)) (zero-add _)

@@ -1,6 +1,6 @@
 -- The machine of a well-formed list is lawful, so its states are met each once, and they are exactly those that outcomes reach from the start.
 --   Good fs s   a state of the list fs: a standing for each filter, every remaining test well formed, and it fits a slot
-use Prim.Native.Nat.{suc, _<_}
+use Prim.Native.Nat.{suc, _*_, _<_}
 use native.Mathlib.Omega.{arith}
 use mathlib.Core.Path.{_≡_, refl, _∙_}
 use mathlib.Core.Bool.{true, false≢true}
@@ -16,9 +16,11 @@ use Rattle.automaton.specs.Machines.{meets, placeOf}
 use Rattle.automaton.specs.Lawful.{Lawful, Reached, Distinct}
 use Rattle.automaton.specs.Reaching.{all-each-good, all-good, all-closed, all-start, all-reached, reached-all, all-distinct, all-place-state, all-place-start}
 use Rattle.automaton.specs.Lists.{Each}
+use Rattle.automaton.specs.Places.{place-below}
+use Rattle.automaton.specs.Records.{records-long}
 use Rattle.states.specs.Measure.{asks}
 use Rattle.slots.specs.Laws.{fitsSlot, fits-start, fits-step, questionWords}
-use Rattle.machine.specs.Box.{boxOf, statesOf}
+use Rattle.machine.specs.Box.{boxOf, statesOf, recordsIn}
 
 pub record Good (fs : List Filter) (s : State) : Type 0 where
   pub well : wellState s ≡ true
@@ -106,3 +108,11 @@ module _ (fs : List Filter) (h : wellFilters fs ≡ true) where
   pub reached-states : (s : State) → Reached (boxOf fs) (start fs) s → meets (boxOf fs) (statesOf fs) s ≡ true
   unfolding statesOf
   reached-states s r = reached-all (box-lawful fs) (suc (testsIn fs)) (start fs) (good-start fs h) enough r
+
+  -- There is at least the start, and a record of nine words for each state.
+  pub states-some : 0 < length (statesOf fs)
+  states-some = omega (arith, place-below (boxOf fs) (statesOf fs) (start fs) start-met)
+
+  pub records-size : length (recordsIn fs) ≡ 9 * length (statesOf fs)
+  unfolding recordsIn
+  records-size = records-long (box-lawful fs) (statesOf fs) states-good
