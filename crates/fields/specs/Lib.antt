@@ -1,2 +1,11 @@
+pub mod Both
 pub mod Widths
 pub mod Fields
+pub mod Header
+pub mod Parts
+pub mod Bounds
+pub mod LawsWidths
+pub mod LawsPresence
+pub mod LawsHeader
+pub mod LawsValues
+pub mod LawsAgree
