@@ -1,3 +1,5 @@
 pub mod Filters
 pub mod Refusals
 pub mod Ranks
+pub mod Accepted
+pub mod Laws

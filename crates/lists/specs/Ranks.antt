@@ -1,16 +1,19 @@
 -- Document 01, "Tests, filters, ranks", last paragraph: ranks and the match set.
 --   above fs i j       filter i ranks above filter j
+--   rankSet fs i       the set of the filters that rank above filter i; empty beyond the list
+--   rankSets fs        one for each number that a filter can have
 --   fires fs r i       filter i's tests all hold, where field n reads r n; false beyond the list
 --   matches fs r i     filter i is in the match set
-use Prim.Native.Nat.{ℕ}
-use mathlib.Core.Bool.{Bool, true, false, not, _&&_, _||_}
-use mathlib.Core.List.{List, [], _∷_}
+use Prim.Native.Nat.{ℕ, _≤_}
+use mathlib.Core.Bool.{Bool, true, false, cond, not, _&&_, _||_}
+use mathlib.Core.Path.{_≡_}
+use mathlib.Core.List.{List, [], _∷_, map}
 use lib.Dec.{ltb, eqb}
-use lib.ListN.{length, getD}
+use lib.ListN.{length, getD, take}
 use Rattle.residue.specs.Tests.{holdsOf}
 use Rattle.residue.specs.declared.Reading.{Reading}
-use Rattle.sets.specs.Sets.{some}
-use Rattle.lists.specs.Filters.{Item, Filter}
+use Rattle.sets.specs.Sets.{setOf, tally, some}
+use Rattle.lists.specs.Filters.{maxFilters, Item, Filter}
 
 abbrev pub noFilter : Filter
 noFilter = record { group = 0; level = 0; tests = [] }
@@ -24,11 +27,32 @@ levelOf fs i = getD fs i noFilter .level
 abbrev pub testsOf : List Filter → ℕ → List Item
 testsOf fs i = getD fs i noFilter .tests
 
--- In one group: the higher level, or the same level and the earlier place.
+-- Filter i of group g and level l above filter j of group h and level m. In one group: the higher level, or the same level and the earlier place.
+unfoldable pub outranks : ℕ → ℕ → ℕ → ℕ → ℕ → ℕ → Bool
+outranks g l i h m j = eqb g h && (ltb m l || (eqb l m && ltb i j))
+
 unfoldable pub above : List Filter → ℕ → ℕ → Bool
-above fs i j =
-    eqb (groupOf fs i) (groupOf fs j) &&
-    (ltb (levelOf fs j) (levelOf fs i) || (eqb (levelOf fs i) (levelOf fs j) && ltb i j))
+above fs i j = outranks (groupOf fs i) (levelOf fs i) i (groupOf fs j) (levelOf fs j) j
+
+-- The same of filters known by their groups and levels alone.
+unfoldable pub aboveBy : List ℕ → List ℕ → ℕ → ℕ → Bool
+aboveBy gs ls j i = outranks (getD gs j 0) (getD ls j 0) j (getD gs i 0) (getD ls i 0) i
+
+unfoldable pub rankSetBy : List ℕ → List ℕ → ℕ → ℕ → ℕ
+rankSetBy gs ls n i = cond (ltb i n) (setOf (tally n (λ j. aboveBy gs ls j i))) 0
+
+-- The first n groups and levels are those of the n filters.
+pub record Heads (fs : List Filter) (n : ℕ) (gs ls : List ℕ) : Type 0 where
+  pub count : n ≡ length fs
+  pub few : n ≤ maxFilters
+  pub groups : take n gs ≡ map (λ (f : Filter). f .group) fs
+  pub levels : take n ls ≡ map (λ (f : Filter). f .level) fs
+
+unfoldable pub rankSet : List Filter → ℕ → ℕ
+rankSet fs i = cond (ltb i (length fs)) (setOf (tally (length fs) (λ j. above fs j i))) 0
+
+unfoldable pub rankSets : List Filter → List ℕ
+rankSets fs = tally maxFilters (rankSet fs)
 
 unfoldable pub allHold : (ℕ → Reading) → List Item → Bool
 allHold r [] = true

@@ -1,7 +1,7 @@
 -- Sets of small numbers as bit sets (document 01, "States and the table": filter i is bit i). No width is named.
 --   setOf bs      the set that holds i where the list has true at place i
 --   member i s    the set s holds i
---   tally n p     the list p 0, p 1, .. of n truths
+--   tally n p     the list p 0, p 1, .. of n truths, or of anything else
 --   some n p      p is true of a number below n
 use Prim.Native.Nat.{ℕ, zero, suc, _+_, _*_, _/_, _%_, _^_}
 use mathlib.Core.Bool.{Bool, true, false, cond, _||_}
@@ -18,7 +18,7 @@ setOf (b ∷ bs) = setOf bs * 2 + bit b
 unfoldable pub member : ℕ → ℕ → Bool
 member i s = eqb (s / 2 ^ i % 2) 1
 
-unfoldable pub tally : ℕ → (ℕ → Bool) → List Bool
+unfoldable pub tally : {A : Type 0} → ℕ → (ℕ → A) → List A
 tally zero p = []
 tally (suc n) p = tally n p ++ (p n ∷ [])
 

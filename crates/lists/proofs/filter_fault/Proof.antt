@@ -1,0 +1,88 @@
+-- `lists::filter_fault` meets its contract: the tests come in the definition's order, and each return rewrites with those on its way.
+-- Assumes nothing.
+use mathlib.Core.Path.{_≡_, sym, _∙_}
+use native.Mathlib.Omega.{arith}
+use borrow.Author.Tests.{lt-ltb, le-ltb}
+use Rattle.lists.specs.Refusals.{filterFault}
+use Rattle.lists.proofs.Turns.{rest-is}
+use borrow.Author.Needs.{needs}
+use Rattle.lists.proofs.filter_fault.Statement.{statement}
+use Rattle.lists.proofs.filter_fault.Tie as tie
+
+returns : tie.Need-returns
+unfolding filterFault
+returns c = rw (lt-ltb _ _ (c .if1 .taken))
+
+shared-slice-read-count : tie.Need-shared-slice-read-count
+shared-slice-read-count c = search needs
+
+shared-slice-read-if2 : tie.Need-shared-slice-read-if2
+shared-slice-read-if2 c = search needs
+
+shared-slice-read-if2-2 : tie.Need-shared-slice-read-if2-2
+shared-slice-read-if2-2 c = search needs
+
+returns-2 : tie.Need-returns-2
+unfolding filterFault
+returns-2 c = rw (le-ltb _ _ (c .before .before .before .before .if1 .left), c .if2 .taken)
+
+returns-3 : tie.Need-returns-3
+unfolding filterFault
+returns-3 c = rw (le-ltb _ _ (c .before .before .before .before .before .if1 .left), c .before .if2 .left, lt-ltb _ _ (c .if3 .taken))
+
+cast-if4 : tie.Need-cast-if4
+cast-if4 c = search needs
+
+mul-if4 : tie.Need-mul-if4
+mul-if4 c = search needs
+
+add-if4 : tie.Need-add-if4
+add-if4 c = search needs
+
+returns-4 : tie.Need-returns-4
+unfolding filterFault
+returns-4 c = rw (le-ltb _ _ (c .before .before .before .before .before .before .if1 .left), c .before .before .if2 .left, le-ltb _ _ (c .before .if3 .left), lt-ltb _ _ (c .if4 .taken))
+
+sub-tests-fault : tie.Need-sub-tests-fault
+sub-tests-fault c = search needs
+
+part-tests-fault-start : tie.Need-part-tests-fault-start
+part-tests-fault-start c = search needs
+
+part-tests-fault-end : tie.Need-part-tests-fault-end
+part-tests-fault-end c = search needs
+
+tests-fault-requires : tie.Need-tests-fault-requires
+tests-fault-requires c κs = search needs
+
+returns-5 : tie.Need-returns-5
+unfolding filterFault
+returns-5 c =
+    let d = c .before .before in
+    rw (
+      le-ltb _ _ (d .before .before .before .before .before .before .if1 .left),
+      d .before .before .if2 .left,
+      le-ltb _ _ (d .before .if3 .left),
+      le-ltb _ _ (d .if4 .left),
+    )
+    (c .tests-fault .ensures ∙ rw rest-is)
+
+pub filter-fault-spec : {M : Type 1} → statement M
+filter-fault-spec =
+    tie.close
+    (tie.spec
+    returns
+    shared-slice-read-count
+    shared-slice-read-if2
+    shared-slice-read-if2-2
+    returns-2
+    returns-3
+    cast-if4
+    mul-if4
+    add-if4
+    returns-4
+    sub-tests-fault
+    part-tests-fault-start
+    part-tests-fault-end
+    tests-fault-requires
+    returns-5)
