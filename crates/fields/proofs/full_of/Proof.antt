@@ -1,29 +1,53 @@
--- `fields::full_of` meets its contract: the table is the table of widths with 2 ^ w - 1 at each.
+-- `fields::full_of` meets its contract: the constant table is the definition's, and no width in it is above 32, so nothing wraps.
 -- Assumes nothing.
-use Prim.Native.Nat.{ℕ, _-_, _^_}
-use mathlib.Core.Path.{sym, ap}
-use lib.ListN.{List·getD-map, List·getD-eq-default}
 use borrow.Author.Needs.{needs}
+use native.Mathlib.Omega.{arith}
+use Prim.Native.Nat.{_≤_}
+use mathlib.Core.Path.{sym}
+use lib.ListN.{List·getD-eq-default}
+use lib.Pow.{pow-pos}
 use Rattle.fields.specs.Widths.{widths, width, full}
+use Rattle.fields.specs.LawsWidths.{width-small, full-fits, one-moved}
 use Rattle.fields.proofs.full_of.Statement.{statement}
 use Rattle.fields.proofs.full_of.Tie as tie
-
-ones : ℕ → ℕ
-ones w = 2 ^ w - 1
-
-mul-result : tie.Need-mul-result
-mul-result c = search needs
-
-array-read-result : tie.Need-array-read-result
-array-read-result c = search needs
+use Rattle.fields.proofs.full_of.Reads as reads
+use Rattle.fields.proofs.full_of.Lts as lts
 
 returns : tie.Need-returns
-unfolding full width ones
-returns c = List·getD-map ones widths (c .before .args .number) 0
+unfolding full width
+returns c =
+    let n = c .before .args .number in
+    let above : 14 ≤ n = omega arith in
+    rw (List·getD-eq-default widths 0 {n = n} above)
+
+array-read-width : tie.Need-array-read-width
+array-read-width c = search needs
+
+cast-result : tie.Need-cast-result
+unfolding width
+cast-result c = omega (arith, width-small (c .before .args .number))
+
+shl-result : tie.Need-shl-result
+unfolding width
+shl-result c = omega (arith, width-small (c .before .args .number))
+
+sub-result : tie.Need-sub-result
+unfolding width
+sub-result c =
+    let n = c .before .args .number in
+    rw (one-moved n) (pow-pos (width n))
+
+cast-result-2 : tie.Need-cast-result-2
+unfolding full width
+cast-result-2 c =
+    let n = c .before .args .number in
+    rw (one-moved n) (record { fits = full-fits n })
 
 returns-2 : tie.Need-returns-2
-unfolding full width ones
-returns-2 c = sym (ap ones (List·getD-eq-default widths 0 (c .if1 .left)))
+unfolding full width
+returns-2 c = rw (one-moved (c .before .args .number))
 
 pub full-of-spec : {M : Type 1} → statement M
-full-of-spec = tie.close (tie.spec mul-result array-read-result returns returns-2)
+full-of-spec =
+    tie.close
+    (tie.spec returns array-read-width cast-result shl-result sub-result cast-result-2 returns-2)

@@ -1,0 +1,90 @@
+-- `fields::is_internet` meets its contract: each early return has found one of the definition's conditions false, and the last
+-- answers its last condition, all others being true.
+-- Assumes nothing.
+use borrow.Author.Needs.{needs}
+use borrow.Author.Tests.{lt-leb, le-leb, eq-eqb, ne-eqb}
+use native.Mathlib.Omega.{arith}
+use Prim.Native.Nat.{_+_, _-_}
+use mathlib.Core.Path.{_∙_, sym}
+use mathlib.Core.Bool.{and-false}
+use Rattle.fields.specs.Fields.{internet, version, headerLength, totalLength, two}
+use Rattle.fields.specs.Bounds.{two-fits, byte-fits}
+use Rattle.fields.proofs.is_internet.Statement.{statement}
+use Rattle.fields.proofs.is_internet.Tie as tie
+use Rattle.fields.proofs.is_internet.Reads as reads
+use Rattle.fields.proofs.is_internet.Lts as lts
+use Rattle.fields.proofs.two_at.Reads as two-at-reads
+
+returns : tie.Need-returns
+unfolding internet
+returns c = simp (lt-leb _ _ (c .if1 .taken), and-false)
+
+two-at-requires : tie.Need-two-at-requires
+two-at-requires c κs = search needs
+
+returns-2 : tie.Need-returns-2
+unfolding internet
+returns-2 c = simp (← c .before .two-at .ensures, ne-eqb _ _ (c .if2 .taken))
+
+shared-slice-read-first : tie.Need-shared-slice-read-first
+shared-slice-read-first c = search needs
+
+cast-first : tie.Need-cast-first
+cast-first c = omega (arith, c .shared-slice-known2 .given 14)
+
+returns-3 : tie.Need-returns-3
+unfolding internet version
+returns-3 c = simp (ne-eqb _ _ (c .if3 .taken), and-false)
+
+mul-header : tie.Need-mul-header
+mul-header c = omega arith
+
+returns-4 : tie.Need-returns-4
+unfolding internet headerLength
+returns-4 c = simp (lt-leb _ _ (c .if4 .taken), and-false)
+
+two-at-requires-2 : tie.Need-two-at-requires-2
+two-at-requires-2 c κs = search needs
+
+cast-total : tie.Need-cast-total
+cast-total c = search needs
+
+returns-5 : tie.Need-returns-5
+unfolding internet headerLength totalLength
+returns-5 c = simp (← c .before .two-at2 .ensures, lt-leb _ _ (c .if5 .taken), and-false)
+
+add-result : tie.Need-add-result
+add-result c = search needs
+
+returns-6 : tie.Need-returns-6
+unfolding internet headerLength totalLength version
+returns-6 c =
+    let fifth = c .before in
+    let third = fifth .before .before in
+    let second = third .before .before in
+    simp
+    (← fifth .two-at2 .ensures,
+    ← second .before .two-at .ensures,
+    eq-eqb _ _ (second .if2 .left),
+    le-leb _ _ (second .before .before .if1 .left),
+    eq-eqb _ _ (third .if3 .left),
+    le-leb _ _ (fifth .before .if4 .left),
+    le-leb _ _ (c .if5 .left))
+
+pub is-internet-spec : {M : Type 1} → statement M
+is-internet-spec =
+    tie.close
+    (tie.spec
+    returns
+    two-at-requires
+    returns-2
+    shared-slice-read-first
+    cast-first
+    returns-3
+    mul-header
+    returns-4
+    two-at-requires-2
+    cast-total
+    returns-5
+    add-result
+    returns-6)

@@ -1,0 +1,170 @@
+// Runs classify on the table that document 01 prints, with an echo request of TTL 1: allowances, damaged tables,
+// numbers of states that do not fit, frames at the length limit. Prints how each walk ended and its numbers.
+ghost use mathlib.Core.Path.{_≡_};
+ghost use Prim.Native.Nat.{_<_, _≤_};
+ghost use lib.ListN.{length};
+
+use libc::STDOUT_FILENO;
+use matcher::Answer;
+
+fn put_word(n: u32) {
+    io::write_all(STDOUT_FILENO, b" ");
+    io::print_decimal(STDOUT_FILENO, n as u64);
+}
+
+fn put_sets(sure: u32, out: u32, asked: u32) {
+    put_word(sure);
+    put_word(out);
+    put_word(asked);
+    io::write_all(STDOUT_FILENO, b"\n");
+}
+
+fn put_refusal(n: u32) {
+    io::write_all(STDOUT_FILENO, b"refused");
+    put_word(n);
+    io::write_all(STDOUT_FILENO, b"\n");
+}
+
+fn put_done(sure: u32, out: u32, asked: u32) {
+    io::write_all(STDOUT_FILENO, b"done");
+    put_sets(sure, out, asked);
+}
+
+fn put_stopped(sure: u32, out: u32, asked: u32) {
+    io::write_all(STDOUT_FILENO, b"stopped");
+    put_sets(sure, out, asked);
+}
+
+fn put_answer(a: Answer) {
+    match a {
+        Answer::Done(s, o, k) => put_done(s, o, k),
+        Answer::Stopped(s, o, k) => put_stopped(s, o, k),
+        Answer::Refused(n) => put_refusal(n),
+    }
+}
+
+fn run(label: &[u8], frame: &[u8], table: &[u32], states: u32, allowance: u32) {
+    io::write_all(STDOUT_FILENO, label);
+    io::write_all(STDOUT_FILENO, b": ");
+    put_answer(matcher::classify(frame, 3, table, states, allowance));
+}
+
+// The table that document 01 prints.
+fn echo_table() -> [u32; 90]
+    ensures { λ r. ⌜ length r ≡ 90 ⌝ }
+{
+    [
+        1, 11, 255, 8, 1, 4, 8, 0, 0, // 0
+        1, 4, 255, 1, 2, 3, 3, 1, 2, // 1
+        0, 0, 0, 0, 0, 0, 0, 5, 2, // 2
+        0, 0, 0, 0, 0, 0, 0, 1, 6, // 3
+        1, 11, 255, 0, 5, 8, 8, 0, 1, // 4
+        1, 4, 255, 1, 6, 7, 7, 0, 1, // 5
+        0, 0, 0, 0, 0, 0, 0, 6, 1, // 6
+        0, 0, 0, 0, 0, 0, 0, 0, 7, // 7
+        1, 4, 255, 1, 9, 7, 7, 0, 3, // 8
+        0, 0, 0, 0, 0, 0, 0, 4, 3, // 9
+    ]
+}
+
+// An echo request with TTL 1 at the start of the bytes: IPv4, header of 20 bytes, 28 bytes in all, ICMP, type 8.
+fn put_echo(frame: &mut [u8])
+    requires { ⌜ 42 ≤ length (now frame) ⌝ }
+{
+    frame[12] = 8;
+    frame[14] = 69;
+    frame[17] = 28;
+    frame[22] = 1;
+    frame[23] = 1;
+    frame[34] = 8;
+}
+
+fn allowances(frame: &[u8], t: &[u32]) {
+    run(b"allowance 0", frame, t, 10, 0);
+    run(b"allowance 1", frame, t, 10, 1);
+    run(b"allowance 2", frame, t, 10, 2);
+    run(b"allowance 3", frame, t, 10, 3);
+    run(b"allowance 4294967295", frame, t, 10, 4294967295);
+}
+
+// Number of states 0, as many as there are slots, one more; and a prefix of the states that the walk leaves.
+fn numbers(frame: &[u8], t: &[u32]) {
+    run(b"0 states", frame, t, 0, 9);
+    run(b"11 states", frame, t, 11, 9);
+    run(b"4097 states", frame, t, 4097, 9);
+    run(b"4294967295 states", frame, t, 4294967295, 9);
+    run(b"next 2 of 2 states, allowance 1", frame, t, 2, 1);
+    run(b"next 2 of 2 states, allowance 2", frame, t, 2, 2);
+}
+
+// Slots are counted whole.
+fn short_tables(frame: &[u8], t: &[u32]) {
+    if t.len() < 90 {
+        return;
+    }
+    let most = &t[0..89];
+    run(b"89 words, 10 states", frame, most, 10, 9);
+    run(b"89 words, 9 states", frame, most, 9, 9);
+    let none = &t[0..0];
+    run(b"no words, 1 state", frame, none, 1, 9);
+}
+
+fn damaged_at(label: &[u8], frame: &[u8], at: usize, word: u32, allowance: u32)
+    requires { ⌜ at < 90 ⌝ }
+{
+    let mut t = echo_table();
+    t[at] = word;
+    run(label, frame, &t, 10, allowance);
+}
+
+// A record is checked when it is reached, before the allowance is; a final record's field is not looked at.
+fn damages(frame: &[u8]) {
+    damaged_at(b"kind 5 in record 0, allowance 0", frame, 0, 5, 0);
+    damaged_at(b"field 14 in record 0, allowance 0", frame, 1, 14, 0);
+    damaged_at(b"kind 5 in record 1, allowance 0", frame, 9, 5, 0);
+    damaged_at(b"kind 5 in record 1, allowance 1", frame, 9, 5, 1);
+    damaged_at(b"field 14 in final record 2", frame, 19, 14, 2);
+    damaged_at(b"next 10 in record 0, allowance 0", frame, 4, 10, 0);
+    damaged_at(b"next 10 in record 0, allowance 1", frame, 4, 10, 1);
+    damaged_at(b"next 10 in record 1, allowance 2", frame, 13, 10, 2);
+    damaged_at(b"next 10 on a way not taken", frame, 5, 10, 2);
+    damaged_at(
+        b"record 0 leads to itself, allowance 7",
+        frame,
+        4,
+        0,
+        7,
+    );
+}
+
+// Frames without fields, and at the greatest length.
+fn lengths(frame: &[u8], t: &[u32]) {
+    if frame.len() < 1523 {
+        return;
+    }
+    let none = &frame[0..0];
+    run(b"empty frame", none, t, 10, 9);
+    let bare = &frame[0..13];
+    run(b"frame of 13 bytes", bare, t, 10, 9);
+    let most = &frame[0..1522];
+    run(b"frame of 1522 bytes", most, t, 10, 9);
+    run(b"frame of 1523 bytes", frame, t, 10, 9);
+    run(b"frame of 1523 bytes, 0 states", frame, t, 0, 9);
+}
+
+fn walks(frame: &[u8], t: &[u32]) {
+    allowances(frame, t);
+    numbers(frame, t);
+    short_tables(frame, t);
+    damages(frame);
+}
+
+fn main() {
+    let t = echo_table();
+    let mut frame = [0u8; 42];
+    put_echo(&mut frame);
+    walks(&frame, &t);
+    let mut long = [0u8; 1523];
+    put_echo(&mut long);
+    lengths(&long, &t);
+}
