@@ -3,13 +3,15 @@
 --   items-separator    a separator in front of a text makes no item
 --   items-run          a run of other bytes with a separator behind it is an item, and the items of the rest follow
 --   items-last         so is a run at the text's end
+--   reads-fit          the words that an answer counts lie within the words lent
 --   reads-one          one promise allows one outcome
 --   tried              the edges of refusal 14, one list of cases
-use Prim.Native.Nat.{ℕ}
-use mathlib.Core.Path.{_≡_, refl, sym, _∙_}
-use mathlib.Core.Bool.{Bool, true, not, _&&_, and-eq-true-iff}
+use Prim.Native.Nat.{ℕ, _≤_}
+use mathlib.Core.Path.{_≡_, refl, sym, ap, _∙_}
+use native.Mathlib.Omega.{arith}
+use mathlib.Core.Bool.{Bool, true, false, cond, not, _&&_, and-eq-true-iff}
 use mathlib.Core.List.{List, [], _∷_, _++_, map}
-use lib.ListN.{replicate}
+use lib.ListN.{length, replicate, length-append}
 use borrow.Author.Tests.{not-true}
 use Rattle.text.specs.Text.{separates, onto, runs, full, items, isDigit, digitsOnly, spelled, valueOf, isNumber, allNumbers, numbers, tooLong, accepted, wordsOf, readOf, Reads}
 use Rattle.text.specs.declared.Read.{Read}
@@ -60,9 +62,20 @@ pub items-last : (b : ℕ) (r : List ℕ) → unbroken (b ∷ r) ≡ true → it
 unfolding items full
 items-last b r u = rw (runs-last (b ∷ r) u)
 
+counts : (a : Bool) (m n : ℕ) → cond a (Words m) Refused ≡ Words n → m ≡ n
+counts true m n e = cc
+counts false m n e = let z : _≡_ {A = ℕ} 0 1 = cc in absurd (omega arith)
+
 -- One promise allows one outcome.
 pub reads-one : (t before : List ℕ) {a b : List ℕ} {r s : Read} → Reads t before a r → Reads t before b s → (a ≡ b) × (r ≡ s)
 reads-one t before p q = (p .words ∙ sym (q .words), p .answer ∙ sym (q .answer))
+
+-- The words that an answer counts lie within the words lent.
+pub reads-fit : (t before after : List ℕ) (n : ℕ) (r : Read) → Reads t before after r → r ≡ Words n → n ≤ length after
+unfolding readOf
+reads-fit t before after n r p e =
+    let counted = counts (accepted t) (length (wordsOf t)) n (sym (p .answer) ∙ e) in
+    omega (arith, simp length-append at (ap length (p .words)))
 
 -- ` 007\n4294967295 ` has two words; a tab, a sign, 4294967296 and 1.5 are refused; no text and blank text are the empty list.
 abbrev pub Tried : Type 0
