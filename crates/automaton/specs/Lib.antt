@@ -1,2 +1,10 @@
 pub mod Machines
 pub mod Placing
+pub mod Lists
+pub mod Lawful
+pub mod Visited
+pub mod Places
+pub mod Reaching
+pub mod Records
+pub mod Placed
+pub mod Carrying

@@ -38,9 +38,13 @@ visitWays M visitNext met s = visitNext (visitNext (visitNext met (M .step Holds
 unfoldable pub visit : (M : Machine) → ℕ → List (M .State) → M .State → List (M .State)
 visit M zero met s = met
 visit M (suc f) met s =
-    elim (meets M met s) [ true ↦ met
-                         | false ↦ elim (M .asks s) [ true ↦ visitWays M (visit M f) (met ++ (s ∷ [])) s
-                                                    | false ↦ met ++ (s ∷ []) ] ]
+    elim (meets M met s) [
+      | true ↦ met
+      | false ↦ elim (M .asks s) [
+        | true ↦ visitWays M (visit M f) (met ++ (s ∷ [])) s
+        | false ↦ met ++ (s ∷ [])
+      ]
+    ]
 
 unfoldable pub nextsOf : (M : Machine) → List (M .State) → M .State → List ℕ
 nextsOf M met s =

@@ -43,21 +43,24 @@ andThen M (room m) f = f m
 -- `build at m` builds the ways of the new state at place `at`; `s` is the state stored at place `at`.
 unfoldable pub placeWay : (M : Machine) → ℕ → (ℕ → M .State → Memory M → Placed M) → Outcome → ℕ → M .State → Memory M → Placed M
 placeWay M slots build o at s m =
-    elim (meets M (m .met) (M .step o s))
-    [ true ↦ room (linked M o at (placeOf M (m .met) (M .step o s)) m)
-    | false ↦ elim (leb slots (length (m .met)))
-              [ true ↦ full
-              | false ↦ andThen M (build (length (m .met)) (M .step o s) (stored M (M .step o s) m))
-                        (λ m'. room (linked M o at (length (m .met)) m')) ] ]
+    elim (meets M (m .met) (M .step o s)) [
+      | true ↦ room (linked M o at (placeOf M (m .met) (M .step o s)) m)
+      | false ↦ elim (leb slots (length (m .met))) [
+        | true ↦ full
+        | false ↦ andThen M (build (length (m .met)) (M .step o s) (stored M (M .step o s) m))
+            (λ m'. room (linked M o at (length (m .met)) m'))
+      ]
+    ]
 
 unfoldable pub placeState : (M : Machine) → ℕ → ℕ → ℕ → M .State → Memory M → Placed M
 placeState M slots zero at s m = room m
 placeState M slots (suc f) at s m =
-    elim (M .asks s)
-    [ true ↦ andThen M (placeWay M slots (placeState M slots f) Holds at s m)
-             (λ m₁. andThen M (placeWay M slots (placeState M slots f) Fails at s m₁)
-             (λ m₂. placeWay M slots (placeState M slots f) Absent at s m₂))
-    | false ↦ room m ]
+    elim (M .asks s) [
+      | true ↦ andThen M (placeWay M slots (placeState M slots f) Holds at s m)
+          (λ m₁. andThen M (placeWay M slots (placeState M slots f) Fails at s m₁)
+          (λ m₂. placeWay M slots (placeState M slots f) Absent at s m₂))
+      | false ↦ room m
+    ]
 
 -- The whole: the start is state 0.
 unfoldable pub placeAll : (M : Machine) → ℕ → ℕ → M .State → Placed M

@@ -3,18 +3,19 @@
 use Prim.Native.Nat.{ℕ, zero, suc, _+_, _≤_, _<_}
 use native.Mathlib.Omega.{arith}
 use native.Mathlib.Nat.{le-of-suc-le-suc, not-suc-le-zero}
-use mathlib.Core.Path.{_≡_, refl, ap, subst, sym, _∙_}
-use mathlib.Core.Bool.{Bool, true, false, or-false}
+use mathlib.Core.Path.{_≡_, refl, ap}
+use mathlib.Core.Bool.{true, false, or-false}
 use mathlib.Core.List.{List, [], _∷_, _++_, map}
 use borrow.Author.Tests.{lt-leb, le-leb, ne-eqb}
-use lib.Dec.{T, leb, eqb, leb→le, lit≤}
+use lib.Dec.{T, leb, leb→le, lit≤}
 use lib.ListN.{length, set, replicate, length-set, length-replicate}
 use lib.Seq.{sets}
 use Rattle.sets.specs.Sets.{setOf}
 use Rattle.residue.specs.declared.Reading.{Reading}
 use Rattle.residue.specs.declared.Reading.the-variants.{Absent, Value}
 use Rattle.fields.specs.Fields.{byte, two, ethernet, internet, transport, protocol, carries, readings}
-use Rattle.fields.specs.Header.{Header, Filled, put, filled, presentSet, transportReadings, internetWords}
+use Rattle.fields.specs.Header.{Header, put, filled, presentSet}
+use Rattle.fields.specs.Parts.{Filled, transportReadings, internetWords}
 
 filled-absent : (n : ℕ) (old : List ℕ) → old ≡ filled (replicate n Absent) old
 unfolding filled
@@ -82,7 +83,7 @@ module _ (t old : List ℕ) where
       record {
         set = simp e;
         words = simp e (filled-absent 13 old);
-        small = omega arith
+        small = omega arith;
       }
 
   pub ports-whole : 4 ≤ length t → Filled t 17 old (set (set old 8 (two t 0)) 9 (two t 2)) 768
@@ -92,7 +93,7 @@ module _ (t old : List ℕ) where
       record {
         set = simp e;
         words = simp e (stored 13 (two t 0 ∷ two t 2 ∷ []) 8 old tt);
-        small = omega arith
+        small = omega arith;
       }
 
   pub tcp-short : {mid : List ℕ} {ports : ℕ} → length t < 14 → Filled t 17 old mid ports → Filled t 6 old mid ports
@@ -111,7 +112,7 @@ module _ (t old : List ℕ) where
       record {
         set = simp (e, e4, bits);
         words = simp (e, e4) (simp e4 at (stores (byte t 13 ∷ []) 10 (behind t 17) mid old (lit≤ tt) (f .words)));
-        small = omega arith
+        small = omega arith;
       }
 
   pub icmp-none : length t < 1 → Filled t 1 old old 0
@@ -122,7 +123,7 @@ module _ (t old : List ℕ) where
       record {
         set = simp (e, e2);
         words = simp (e, e2) (filled-absent 13 old);
-        small = omega arith
+        small = omega arith;
       }
 
   pub icmp-type : 1 ≤ length t → length t < 2 → Filled t 1 old (set old 11 (byte t 0)) 2048
@@ -133,7 +134,7 @@ module _ (t old : List ℕ) where
       record {
         set = simp (e, e2);
         words = simp (e, e2) (stored 13 (byte t 0 ∷ []) 11 old tt);
-        small = omega arith
+        small = omega arith;
       }
 
   pub icmp-whole : 2 ≤ length t → Filled t 1 old (set (set old 11 (byte t 0)) 12 (byte t 1)) 6144
@@ -144,7 +145,7 @@ module _ (t old : List ℕ) where
       record {
         set = simp (e, e2);
         words = simp (e, e2) (stored 13 (byte t 0 ∷ byte t 1 ∷ []) 11 old tt);
-        small = omega arith
+        small = omega arith;
       }
 
   pub other : (q : ℕ) → (q ≡ 6 → ⊥) → (q ≡ 17 → ⊥) → (q ≡ 1 → ⊥) → Filled t q old old 0
@@ -156,7 +157,7 @@ module _ (t old : List ℕ) where
       record {
         set = simp (e6, e17, e1);
         words = simp (e6, e17, e1) (filled-absent 13 old);
-        small = omega arith
+        small = omega arith;
       }
 
 module _ (f : List ℕ) (p : ℕ) (old : List ℕ) where
@@ -165,7 +166,7 @@ module _ (f : List ℕ) (p : ℕ) (old : List ℕ) where
   header-none e i =
       record {
         set = simp (e, i);
-        words = simp (e, i) (stored 14 (p ∷ []) 13 old tt)
+        words = simp (e, i) (stored 14 (p ∷ []) 13 old tt);
       }
 
   named : set (set old 13 p) 0 (two f 12) ≡ filled (set (set (replicate 14 Absent) 13 (Value p)) 0 (Value (two f 12))) old
@@ -176,7 +177,7 @@ module _ (f : List ℕ) (p : ℕ) (old : List ℕ) where
   header-ethernet e i =
       record {
         set = simp (e, i);
-        words = simp (e, i) named
+        words = simp (e, i) named;
       }
 
   pub header-internet :
@@ -190,6 +191,6 @@ module _ (f : List ℕ) (p : ℕ) (old : List ℕ) where
       record {
         set = simp (e, i) (omega (arith, part .set));
         words =
-          simp (e, i)
-          (rw (stores (internetWords f) 1 _ _ old (lit≤ tt) named, filled-filled) at (part .words))
+            simp (e, i)
+            (rw (stores (internetWords f) 1 _ _ old (lit≤ tt) named, filled-filled) at (part .words));
       }

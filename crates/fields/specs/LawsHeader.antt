@@ -1,11 +1,11 @@
 -- A header that was read once answers for every field what the definition answers.
-use Prim.Native.Nat.{ℕ, zero, suc, _+_, _*_, _/_, _%_, _^_, _≤_, _<_}
+use Prim.Native.Nat.{ℕ, zero, suc, _+_, _*_, _/_, _%_, _^_}
 use native.Mathlib.Omega.{arith}
 use native.Mathlib.Nat.{zero-div, pow-succ', div-div-eq-div-mul}
-use mathlib.Core.Path.{_≡_, refl, ap, sym, _∙_}
-use mathlib.Core.Bool.{Bool, true, false, cond, _&&_}
+use mathlib.Core.Path.{_≡_, refl, sym}
+use mathlib.Core.Bool.{Bool, true, false, cond}
 use mathlib.Core.List.{List, [], _∷_, map}
-use lib.Dec.{eqb, ltb}
+use lib.Dec.{ltb}
 use lib.ListN.{length, getD, List·getD-eq-default}
 use borrow.Author.Tests.{ltb-false}
 use Rattle.residue.specs.declared.Reading.{Reading}
@@ -13,7 +13,7 @@ use Rattle.residue.specs.declared.Reading.the-variants.{Absent, Value}
 use Rattle.sets.specs.Sets.{bit, setOf, member}
 use Rattle.fields.specs.Widths.{fieldCount}
 use Rattle.fields.specs.Fields.{readings, field}
-use Rattle.fields.specs.Header.{isPresent, presentSet, put, filled, readingAt}
+use Rattle.fields.specs.Header.{isPresent, presentSet, filled, readingAt}
 
 member-zero : (n : ℕ) → member n 0 ≡ false
 unfolding member
@@ -36,7 +36,7 @@ member-next : (n s : ℕ) (b : Bool) → member (suc n) (s * 2 + bit b) ≡ memb
 unfolding member
 member-next n s b =
     let e : (s * 2 + bit b) / 2 ^ suc n ≡ s / 2 ^ n =
-      rw (pow-succ' 2 n, ← div-div-eq-div-mul (s * 2 + bit b) 2 (2 ^ n), half s b) in
+    rw (pow-succ' 2 n, ← div-div-eq-div-mul (s * 2 + bit b) 2 (2 ^ n), half s b) in
     rw e
 
 agrees :

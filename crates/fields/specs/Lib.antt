@@ -1,7 +1,11 @@
 pub mod Both
 pub mod Widths
-pub mod LawsWidths
 pub mod Fields
-pub mod Bounds
 pub mod Header
+pub mod Parts
+pub mod Bounds
+pub mod LawsWidths
+pub mod LawsPresence
 pub mod LawsHeader
+pub mod LawsValues
+pub mod LawsAgree

@@ -5,8 +5,8 @@ ghost use lib.ListN.{length};
 ghost use lib.Seq.{sets};
 ghost use Rattle.fields.specs.Widths.{full};
 ghost use Rattle.fields.specs.Fields.{two, four, internet, field};
-ghost use Rattle.fields.specs.Header.{Header, Filled, internetWords, readingAt};
-
+ghost use Rattle.fields.specs.Header.{Header, readingAt};
+ghost use Rattle.fields.specs.Parts.{Filled, internetWords};
 use residue::Reading;
 
 // The width of each field in bits, by its number.
@@ -28,7 +28,9 @@ fn two_at(s: &[u8], i: usize) -> u32
     requires { ⌜ i + 1 < length (now s) ⌝ }
     ensures { λ r. ⌜ r ≡ two (now (s .entry)) i ⌝ }
 {
-    s[i] as u32 * 256 + s[i + 1] as u32
+    let high = s[i] as u32;
+    let low = s[i + 1] as u32;
+    high * 256 + low
 }
 
 // The number in four bytes from i on.
@@ -146,13 +148,16 @@ pub fn read_header(frame: &[u8], port: u8, values: &mut [u32; 14]) -> u32
     if kind < 1536 {
         return 8192;
     }
-    values[0] = kind;
+    // All that is read twice is read before the first store behind it, so that the compiler need not load it again.
     if is_internet(frame) {
-        fill_internet(frame, values);
         let start = 14 + 4 * (frame[14] as usize % 16);
         let end = 14 + two_at(frame, 16) as usize;
-        return 8447 + fill_transport(&frame[start..end], frame[23], values);
+        let protocol = frame[23];
+        values[0] = kind;
+        fill_internet(frame, values);
+        return 8447 + fill_transport(&frame[start..end], protocol, values);
     }
+    values[0] = kind;
     8193
 }
 

@@ -4,22 +4,22 @@
 --   reading-start, reading-turn, reading-end
 --   ranks-agree                  the columns give the list's own ranks
 -- Assumes nothing.
-use Prim.Native.Nat.{ℕ, zero, suc, _+_, _-_, _*_, _≤_, _<_}
+use Prim.Native.Nat.{ℕ, suc, _+_, _-_, _*_, _≤_, _<_}
 use mathlib.Core.Path.{_≡_, refl, sym, ap, ap₂, _∙_}
 use mathlib.Core.Bool.{Bool, true, false, cond, _&&_}
 use mathlib.Core.List.{List, [], _∷_, _++_, map, append-nil}
-use native.Mathlib.Nat.{not-suc-le-zero, add-zero}
+use native.Mathlib.Nat.{add-zero}
 use native.Mathlib.Numerals.{add-one}
 use native.Mathlib.Omega.{arith}
 use lib.Dec.{ltb}
 use lib.ListN.{length, getD, take, drop, set, length-drop, length-set, drop-of-length-le, List·getD-map}
 use lib.Seq.{getD-drop, getD-take, drop-drop, take-suc-set, append-snoc}
-use borrow.Author.Tests.{ltb-true, ltb-false, lt-ltb}
+use borrow.Author.Tests.{ltb-true, ltb-false}
 use Rattle.sets.specs.Sets.{setOf, tally}
 use Rattle.sets.specs.Laws.{tally-ext, tally-more}
-use Rattle.lists.specs.Filters.{Filter, maxFilters, headWords, testWords, countWord, filterWords, filterOf, filtersFrom, filtersOf}
+use Rattle.lists.specs.Filters.{Filter, maxFilters, filterWords, filterOf, filtersFrom, filtersOf}
 use Rattle.lists.specs.Laws.{and-parts, filters-step, filters-none}
-use Rattle.lists.specs.Ranks.{noFilter, groupOf, levelOf, outranks, above, aboveBy, rankSetBy, rankSet, rankSets, Heads}
+use Rattle.lists.specs.Ranks.{noFilter, above, aboveBy, rankSetBy, rankSet, rankSets, Heads}
 
 abbrev pub groupIn : Filter → ℕ
 groupIn f = f .group

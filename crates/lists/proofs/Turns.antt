@@ -4,20 +4,17 @@
 --   list-turn, list-found        the next filter has no fault; it has one
 -- Assumes nothing.
 use Prim.Native.Nat.{ℕ, zero, suc, _+_, _-_, _*_, _≤_, _<_}
-use mathlib.Core.Path.{_≡_, refl, sym, ap, ap₂, _∙_}
-use mathlib.Core.Bool.{Bool, true, false, cond}
-use mathlib.Core.List.{List, [], _∷_}
+use mathlib.Core.Path.{_≡_, _∙_}
+use mathlib.Core.List.{List}
 use native.Mathlib.Nat.{add-zero, not-suc-le-zero, le-refl}
 use native.Mathlib.Omega.{arith}
-use lib.Dec.{eqb}
 use lib.ListN.{length, getD, take, drop, length-drop}
 use lib.Seq.{getD-drop, drop-drop, take-all}
 use borrow.Author.Tests.{eq-eqb, ne-eqb}
-use Rattle.lists.specs.Filters.{maxFilters, headWords, testWords, countWord, filterWords}
+use Rattle.lists.specs.Filters.{maxFilters, testWords, countWord, filterWords}
 use Rattle.lists.specs.Refusals.{testFault, wordsFault, testsFault, filterFault, listedFrom}
-use Rattle.lists.specs.Laws.{NoFault, no-fault, listed-step, listed-full}
-use Rattle.lists.specs.declared.Listed.{Listed}
-use Rattle.lists.specs.declared.Listed.the-variants.{Accepted, Refused}
+use Rattle.lists.specs.Laws.{no-fault, listed-step, listed-full}
+use Rattle.lists.specs.declared.Listed.the-variants.{Refused}
 
 pub words-at : (ws : List ℕ) (at : ℕ) → testFault (getD ws at 0) (getD ws (at + 1) 0) (getD ws (at + 2) 0) (getD ws (at + 3) 0) ≡ wordsFault (drop at ws)
 unfolding wordsFault

@@ -5,7 +5,7 @@
 --   testOf k m v     the test that the words kind, mask, value mean
 --   filtersOf ws     the filters of the words ws, which refusals 1 to 9 do not meet
 use Prim.Native.Nat.{ℕ, zero, suc, _+_, _*_}
-use mathlib.Core.Bool.{Bool, cond}
+use mathlib.Core.Bool.{cond}
 use mathlib.Core.List.{List, [], _∷_}
 use lib.Dec.{eqb}
 use lib.ListN.{getD, drop}

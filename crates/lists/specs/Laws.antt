@@ -13,7 +13,7 @@ use native.Mathlib.Omega.{arith}
 use lib.Bits.{bitAnd}
 use lib.Dec.{leb, ltb, eqb, lit<}
 use lib.ListN.{length, getD, take, drop}
-use borrow.Author.Tests.{ltb-true, ltb-false, leb-true, leb-false, eqb-true, eqb-false, not-false, lt-ltb, le-leb, eq-eqb, le-ltb, ne-eqb}
+use borrow.Author.Tests.{ltb-true, ltb-false, leb-true, leb-false, eqb-true, eqb-false, not-false, lt-ltb, le-leb, eq-eqb, le-ltb}
 use lib.Pow.{pow-pos}
 use Rattle.sets.specs.Sets.{setOf, member, tally, some}
 use Rattle.sets.specs.Laws.{length-tally, getD-tally, member-tally, and-tally-zero, tally-bound}

@@ -5,7 +5,7 @@
 --   fires fs r i       filter i's tests all hold, where field n reads r n; false beyond the list
 --   matches fs r i     filter i is in the match set
 use Prim.Native.Nat.{ℕ, _≤_}
-use mathlib.Core.Bool.{Bool, true, false, cond, not, _&&_, _||_}
+use mathlib.Core.Bool.{Bool, true, cond, not, _&&_, _||_}
 use mathlib.Core.Path.{_≡_}
 use mathlib.Core.List.{List, [], _∷_, map}
 use lib.Dec.{ltb, eqb}

@@ -3,8 +3,8 @@
 --   testsFault n ws     the first fault of the n tests that the words begin with
 --   filterFault ws      the fault of the filter that the words begin with, in document 01's order within a filter
 --   listed ws           the list's filters and tests counted, or its first fault with the filter's number
-use Prim.Native.Nat.{ℕ, zero, suc, _+_, _*_}
-use mathlib.Core.Bool.{Bool, true, false, cond, not, _&&_, _||_}
+use Prim.Native.Nat.{ℕ, zero, suc, _+_}
+use mathlib.Core.Bool.{Bool, cond, not, _&&_, _||_}
 use mathlib.Core.List.{List, [], _∷_}
 use lib.Dec.{leb, ltb, eqb}
 use lib.Bits.{bitAnd}

@@ -1,2 +1,15 @@
 pub mod States
 pub mod Runs
+pub mod Standings
+pub mod Keeps
+pub mod Every
+pub mod Well
+pub mod Measure
+pub mod Truth
+pub mod Sure
+pub mod Stays
+pub mod Paths
+pub mod Same
+pub mod Asked
+pub mod Cases
+pub mod Laws

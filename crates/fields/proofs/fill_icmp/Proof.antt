@@ -5,8 +5,6 @@ use native.Mathlib.Omega.{arith}
 use Rattle.fields.proofs.Fills.{icmp-none, icmp-type, icmp-whole}
 use Rattle.fields.proofs.fill_icmp.Statement.{statement}
 use Rattle.fields.proofs.fill_icmp.Tie as tie
-use Rattle.fields.proofs.fill_icmp.Reads as reads
-use Rattle.fields.proofs.fill_icmp.Lts as lts
 
 returns : tie.Need-returns
 returns c = icmp-none _ _ (c .if1 .taken)

@@ -3,13 +3,9 @@
 use borrow.Author.Needs.{needs}
 use native.Mathlib.Omega.{arith}
 use Rattle.fields.specs.Fields.{protocol}
-use Rattle.fields.specs.Header.{internetWords}
+use Rattle.fields.specs.Parts.{internetWords}
 use Rattle.fields.proofs.fill_internet.Statement.{statement}
 use Rattle.fields.proofs.fill_internet.Tie as tie
-use Rattle.fields.proofs.fill_internet.Reads as reads
-use Rattle.fields.proofs.fill_internet.Lts as lts
-use Rattle.fields.proofs.four_at.Reads as four-at-reads
-use Rattle.fields.proofs.two_at.Reads as two-at-reads
 
 shared-slice-read-values : tie.Need-shared-slice-read-values
 shared-slice-read-values c = search needs
@@ -66,11 +62,12 @@ returns : tie.Need-returns
 unfolding internetWords protocol
 returns c =
     let ports = c .before .before .before .before in
-    rw
-    (← ports .before .two-at .ensures,
-    ← ports .two-at2 .ensures,
-    ← c .before .four-at .ensures,
-    ← c .four-at2 .ensures)
+    rw (
+      ← ports .before .two-at .ensures,
+      ← ports .two-at2 .ensures,
+      ← c .before .four-at .ensures,
+      ← c .four-at2 .ensures,
+    )
 
 pub fill-internet-spec : {M : Type 1} → statement M
 fill-internet-spec =

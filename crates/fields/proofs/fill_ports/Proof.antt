@@ -1,15 +1,13 @@
 -- `fields::fill_ports` meets its contract: under four bytes no word changes, else both ports are stored.
 -- Assumes nothing.
 use borrow.Author.Needs.{needs}
+use native.Mathlib.Omega.{arith}
 use Rattle.fields.proofs.Fills.{ports-short, ports-whole}
 use Rattle.fields.proofs.fill_ports.Statement.{statement}
 use Rattle.fields.proofs.fill_ports.Tie as tie
-use Rattle.fields.proofs.fill_ports.Reads as reads
-use Rattle.fields.proofs.fill_ports.Lts as lts
-use Rattle.fields.proofs.two_at.Reads as two-at-reads
 
 returns : tie.Need-returns
-returns c = ports-short _ _ (c .if1 .taken)
+returns c = ports-short _ _ (omega arith)
 
 two-at-requires : tie.Need-two-at-requires
 two-at-requires c κs = search needs

@@ -5,9 +5,6 @@ use native.Mathlib.Omega.{arith}
 use Rattle.fields.proofs.Fills.{tcp-short, tcp-whole}
 use Rattle.fields.proofs.fill_tcp.Statement.{statement}
 use Rattle.fields.proofs.fill_tcp.Tie as tie
-use Rattle.fields.proofs.fill_tcp.Reads as reads
-use Rattle.fields.proofs.fill_tcp.Lts as lts
-use Rattle.fields.proofs.fill_ports.Reads as fill-ports-reads
 
 fill-ports-requires : tie.Need-fill-ports-requires
 fill-ports-requires c κs = search needs

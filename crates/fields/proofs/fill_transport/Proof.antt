@@ -4,11 +4,6 @@ use borrow.Author.Needs.{needs}
 use Rattle.fields.proofs.Fills.{other}
 use Rattle.fields.proofs.fill_transport.Statement.{statement}
 use Rattle.fields.proofs.fill_transport.Tie as tie
-use Rattle.fields.proofs.fill_transport.Reads as reads
-use Rattle.fields.proofs.fill_transport.Lts as lts
-use Rattle.fields.proofs.fill_icmp.Reads as fill-icmp-reads
-use Rattle.fields.proofs.fill_ports.Reads as fill-ports-reads
-use Rattle.fields.proofs.fill_tcp.Reads as fill-tcp-reads
 
 fill-tcp-requires : tie.Need-fill-tcp-requires
 fill-tcp-requires c κs = search needs

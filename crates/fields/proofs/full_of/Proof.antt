@@ -3,15 +3,12 @@
 use borrow.Author.Needs.{needs}
 use native.Mathlib.Omega.{arith}
 use Prim.Native.Nat.{_≤_}
-use mathlib.Core.Path.{sym}
 use lib.ListN.{List·getD-eq-default}
 use lib.Pow.{pow-pos}
 use Rattle.fields.specs.Widths.{widths, width, full}
 use Rattle.fields.specs.LawsWidths.{width-small, full-fits, one-moved}
 use Rattle.fields.proofs.full_of.Statement.{statement}
 use Rattle.fields.proofs.full_of.Tie as tie
-use Rattle.fields.proofs.full_of.Reads as reads
-use Rattle.fields.proofs.full_of.Lts as lts
 
 returns : tie.Need-returns
 unfolding full width

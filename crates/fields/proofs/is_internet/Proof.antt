@@ -4,16 +4,10 @@
 use borrow.Author.Needs.{needs}
 use borrow.Author.Tests.{lt-leb, le-leb, eq-eqb, ne-eqb}
 use native.Mathlib.Omega.{arith}
-use Prim.Native.Nat.{_+_, _-_}
-use mathlib.Core.Path.{_∙_, sym}
 use mathlib.Core.Bool.{and-false}
-use Rattle.fields.specs.Fields.{internet, version, headerLength, totalLength, two}
-use Rattle.fields.specs.Bounds.{two-fits, byte-fits}
+use Rattle.fields.specs.Fields.{internet, version, headerLength, totalLength}
 use Rattle.fields.proofs.is_internet.Statement.{statement}
 use Rattle.fields.proofs.is_internet.Tie as tie
-use Rattle.fields.proofs.is_internet.Reads as reads
-use Rattle.fields.proofs.is_internet.Lts as lts
-use Rattle.fields.proofs.two_at.Reads as two-at-reads
 
 returns : tie.Need-returns
 unfolding internet
@@ -62,14 +56,15 @@ returns-6 c =
     let fifth = c .before in
     let third = fifth .before .before in
     let second = third .before .before in
-    simp
-    (← fifth .two-at2 .ensures,
-    ← second .before .two-at .ensures,
-    eq-eqb _ _ (second .if2 .left),
-    le-leb _ _ (second .before .before .if1 .left),
-    eq-eqb _ _ (third .if3 .left),
-    le-leb _ _ (fifth .before .if4 .left),
-    le-leb _ _ (c .if5 .left))
+    simp (
+      ← fifth .two-at2 .ensures,
+      ← second .before .two-at .ensures,
+      eq-eqb _ _ (second .if2 .left),
+      le-leb _ _ (second .before .before .if1 .left),
+      eq-eqb _ _ (third .if3 .left),
+      le-leb _ _ (fifth .before .if4 .left),
+      le-leb _ _ (c .if5 .left),
+    )
 
 pub is-internet-spec : {M : Type 1} → statement M
 is-internet-spec =

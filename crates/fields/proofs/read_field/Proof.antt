@@ -5,10 +5,6 @@ use mathlib.Core.Path.{refl}
 use Rattle.fields.specs.LawsHeader.{header-agrees}
 use Rattle.fields.proofs.read_field.Statement.{statement}
 use Rattle.fields.proofs.read_field.Tie as tie
-use Rattle.fields.proofs.read_field.Reads as reads
-use Rattle.fields.proofs.read_field.Lts as lts
-use Rattle.fields.proofs.read_header.Reads as read-header-reads
-use Rattle.fields.proofs.reading_at.Reads as reading-at-reads
 
 read-header-requires : tie.Need-read-header-requires
 read-header-requires c κs = search needs

@@ -8,8 +8,6 @@ use Rattle.sets.specs.Sets.{member}
 use Rattle.fields.specs.Header.{readingAt}
 use Rattle.fields.proofs.reading_at.Statement.{statement}
 use Rattle.fields.proofs.reading_at.Tie as tie
-use Rattle.fields.proofs.reading_at.Reads as reads
-use Rattle.fields.proofs.reading_at.Lts as lts
 
 returns : tie.Need-returns
 unfolding readingAt

@@ -8,26 +8,28 @@ use Rattle.fields.specs.Fields.{two}
 use Rattle.fields.proofs.two_at.Statement.{statement}
 use Rattle.fields.proofs.two_at.Tie as tie
 
-shared-slice-read-result : tie.Need-shared-slice-read-result
-shared-slice-read-result c = search needs
+shared-slice-read-high : tie.Need-shared-slice-read-high
+shared-slice-read-high c = search needs
 
-cast-result : tie.Need-cast-result
-cast-result c = omega (arith, c .shared-slice-known .given (c .before .args .i))
+cast-high : tie.Need-cast-high
+cast-high c = omega (arith, c .shared-slice-known .given (c .before .args .i))
+
+add-low : tie.Need-add-low
+add-low c = search needs
+
+shared-slice-read-low : tie.Need-shared-slice-read-low
+shared-slice-read-low c = search needs
+
+cast-low : tie.Need-cast-low
+cast-low c = omega (arith, c .shared-slice-known2 .given (c .before .before .args .i + 1))
 
 mul-result : tie.Need-mul-result
-mul-result c = omega (arith, c .shared-slice-known .given (c .before .args .i))
+mul-result c =
+    let i = c .before .before .args .i in
+    omega (arith, c .shared-slice-known2 .given i, c .shared-slice-known2 .given (i + 1))
 
 add-result : tie.Need-add-result
-add-result c = search needs
-
-shared-slice-read-result-2 : tie.Need-shared-slice-read-result-2
-shared-slice-read-result-2 c = search needs
-
-cast-result-2 : tie.Need-cast-result-2
-cast-result-2 c = omega (arith, c .shared-slice-known2 .given (c .before .before .args .i + 1))
-
-add-result-2 : tie.Need-add-result-2
-add-result-2 c =
+add-result c =
     let i = c .before .before .args .i in
     omega (arith, c .shared-slice-known2 .given i, c .shared-slice-known2 .given (i + 1))
 
@@ -39,11 +41,11 @@ pub two-at-spec : {M : Type 1} → statement M
 two-at-spec =
     tie.close
     (tie.spec
-    shared-slice-read-result
-    cast-result
+    shared-slice-read-high
+    cast-high
+    add-low
+    shared-slice-read-low
+    cast-low
     mul-result
     add-result
-    shared-slice-read-result-2
-    cast-result-2
-    add-result-2
     returns)

@@ -2,13 +2,13 @@
 -- The measure is the number of words left.
 -- Assumes nothing.
 use Rattle.lists.specs.Filters.{maxFilters, maxTests}
-use Prim.Native.Nat.{ℕ, _+_, _-_, _*_, _≤_, _<_}
+use Prim.Native.Nat.{ℕ, _-_, _*_, _≤_, _<_}
 use mathlib.Core.Path.{_≡_, refl, sym, ap, _∙_}
 use native.Mathlib.Omega.{arith}
 use lib.ListN.{length, drop, drop-of-length-le}
 use Rattle.lists.specs.Refusals.{filterFault, listedFrom, listed}
 use Rattle.lists.specs.Laws.{listed-end}
-use Rattle.lists.specs.declared.Listed.the-variants.{Accepted, Refused}
+use Rattle.lists.specs.declared.Listed.the-variants.{Refused}
 use Rattle.lists.proofs.Turns.{list-turn, list-found, list-over, rest-is, Passed, passed}
 use borrow.Author.Needs.{needs}
 use Rattle.lists.proofs.check.Statement.{statement}

@@ -1,7 +1,6 @@
 -- `lists::filter_fault` meets its contract: the tests come in the definition's order, and each return rewrites with those on its way.
 -- Assumes nothing.
-use mathlib.Core.Path.{_≡_, sym, _∙_}
-use native.Mathlib.Omega.{arith}
+use mathlib.Core.Path.{_∙_}
 use borrow.Author.Tests.{lt-ltb, le-ltb}
 use Rattle.lists.specs.Refusals.{filterFault}
 use Rattle.lists.proofs.Turns.{rest-is}

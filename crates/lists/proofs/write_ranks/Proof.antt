@@ -3,10 +3,10 @@
 -- Assumes nothing.
 use Rattle.lists.specs.Filters.{maxFilters}
 use Prim.Native.Nat.{_-_, _≤_}
-use mathlib.Core.Path.{_≡_, refl, sym, ap, _∙_}
+use mathlib.Core.Path.{_≡_, refl, sym, _∙_}
 use native.Mathlib.Omega.{arith}
-use lib.ListN.{length, take, set, length-set}
-use lib.Seq.{take-suc-set, take-all}
+use lib.ListN.{length, take, length-set}
+use lib.Seq.{take-all}
 use Rattle.sets.specs.Sets.{tally}
 use Rattle.lists.specs.Ranks.{rankSetBy}
 use Rattle.lists.proofs.Columns.{tally-turn}

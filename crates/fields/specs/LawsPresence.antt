@@ -1,15 +1,15 @@
--- When the definitions say that a frame has fields 0, and 1 to 7.
--- Assumes nothing.
+-- When a frame has field 0, when fields 1 to 7, what these say of its lengths, and what stands in its transport part.
 use Prim.Native.Nat.{ℕ, _+_, _-_, _≤_, _<_}
 use native.Mathlib.Omega.{arith}
-use mathlib.Core.Path.{_≡_, refl}
-use mathlib.Core.Bool.{Bool, true, false, _&&_, and-false}
+use mathlib.Core.Path.{_≡_, refl, _∙_}
+use mathlib.Core.Bool.{Bool, true, false, cond, _&&_, and-false}
 use mathlib.Core.List.{List}
-use borrow.Author.Tests.{lt-leb, le-leb, ne-eqb, leb-true}
-use lib.Dec.{leb, eqb}
-use lib.ListN.{length, take, drop}
+use borrow.Author.Tests.{lt-leb, le-leb, ne-eqb, leb-true, ltb-true, ltb-false}
+use lib.Dec.{leb, ltb, eqb}
+use lib.ListN.{length, take, drop, length-take, List·getD-eq-default}
+use lib.Seq.{getD-take, getD-drop}
 use Rattle.fields.specs.Both.{both-left, both-right}
-use Rattle.fields.specs.Fields.{two, ethernet, internet, version, headerLength, totalLength, transport}
+use Rattle.fields.specs.Fields.{byte, two, ethernet, internet, version, headerLength, totalLength, transport}
 
 module _ (f : List ℕ) where
   pub ethernet-short : length f < 14 → ethernet f ≡ false
@@ -55,7 +55,7 @@ internet-lengths f h =
       whole = leb-true _ _ (both-right c1 c2 h2);
       least = leb-true _ _ (both-right (c1 && c2 && c3) c4 h4);
       header = leb-true _ _ (both-right (c1 && c2 && c3 && c4) c5 h5);
-      inside = leb-true _ _ (both-right (c1 && c2 && c3 && c4 && c5) c6 h)
+      inside = leb-true _ _ (both-right (c1 && c2 && c3 && c4 && c5) c6 h);
     }
 
 -- The part from 14 + h to 14 + t, as the code lends it.
@@ -63,3 +63,17 @@ pub part-from-to : (f : List ℕ) (h t : ℕ) → take ((14 + t) - (14 + h)) (dr
 part-from-to f h t =
     let same : (14 + t) - (14 + h) ≡ t - h = omega arith in
     rw same
+
+-- A byte of a part that is cut behind its first k is the whole's, or 0 behind the end.
+take-byte : (k : ℕ) (l : List ℕ) (i : ℕ) (b : Bool) → ltb i k ≡ b → byte (take k l) i ≡ cond b (byte l i) 0
+take-byte k l i true e = getD-take k l i 0 (ltb-true i k e)
+take-byte k l i false e =
+    let cut : length (take k l) ≤ i = omega (arith, length-take k l, ltb-false i k e) in
+    List·getD-eq-default (take k l) 0 cut
+
+pub transport-byte :
+    (f : List ℕ) (i : ℕ) → byte (transport f) i ≡ cond (ltb i (totalLength f - headerLength f)) (byte f (14 + headerLength f + i)) 0
+unfolding transport
+transport-byte f i =
+    take-byte (totalLength f - headerLength f) (drop (14 + headerLength f) f) i (ltb i (totalLength f - headerLength f)) refl ∙
+    rw (getD-drop (14 + headerLength f) f i 0)

@@ -1,0 +1,155 @@
+-- An encoding that respects same, asks and step carries the states met across, and with the words of a state their records and how they are placed.
+--   Carried M N Good enc  enc takes the good states of M to states of N that compare, ask, step and read alike
+use Prim.Native.Nat.{ℕ, zero, suc, _+_, _<_}
+use mathlib.Core.Path.{_≡_, refl, sym, ap, _∙_}
+use mathlib.Core.Bool.{Bool, true, false, cond, _||_}
+use mathlib.Core.List.{List, [], _∷_, _++_, map, map-append}
+use lib.Dec.{leb}
+use lib.ListN.{length, length-map}
+use Rattle.residue.specs.declared.Outcome.{Outcome}
+use Rattle.residue.specs.declared.Outcome.the-variants.{Holds, Fails, Absent}
+use Rattle.automaton.specs.Machines.{Machine, meets, placeOf, visit, visitWays, nextsOf, recordOf, flat, recordsOf}
+use Rattle.automaton.specs.Lists.{each-nil, each-cons, each-head, each-tail, each-append, Each}
+use Rattle.automaton.specs.Lawful.{Lawful}
+use Rattle.automaton.specs.Visited.{visit-old, visit-final, visit-asking, Visits, old, final, asking, visits-exist, visits-visit}
+use Rattle.automaton.specs.Reaching.{visit-good, visits-good}
+use Rattle.automaton.specs.Placing.{full, room, placeAll}
+use Rattle.automaton.specs.Placed.{memory, Fit, placed-visits}
+
+pub record Carried (M N : Machine) (Good : M .State → Type 0) (enc : M .State → N .State) : Type 0 where
+  pub same-carried : (a b : M .State) → Good a → Good b → N .same (enc a) (enc b) ≡ M .same a b
+  pub asks-carried : (s : M .State) → Good s → N .asks (enc s) ≡ M .asks s
+  pub step-carried : (o : Outcome) (s : M .State) → Good s → M .asks s ≡ true → N .step o (enc s) ≡ enc (M .step o s)
+  pub question-carried : (s : M .State) → Good s → N .question (enc s) ≡ M .question s
+  pub sets-carried : (s : M .State) → Good s → N .sets (enc s) ≡ M .sets s
+
+module _ {M N : Machine} {Good : M .State → Type 0} {left : M .State → ℕ} {enc : M .State → N .State}
+    (law : Lawful M Good left) (carried : Carried M N Good enc) where
+  pub meets-carried : (met : List (M .State)) (s : M .State) → Each Good met → Good s → meets N (map enc met) (enc s) ≡ meets M met s
+  unfolding meets
+  meets-carried [] s good g = refl
+  meets-carried (x ∷ met) s good g =
+      rw (carried .same-carried x s (each-head good) g) (ap (λ (b : Bool). M .same x s || b) (meets-carried met s (each-tail good) g))
+
+  pub place-carried : (met : List (M .State)) (s : M .State) → Each Good met → Good s → placeOf N (map enc met) (enc s) ≡ placeOf M met s
+  unfolding placeOf
+  place-carried [] s good g = refl
+  place-carried (x ∷ met) s good g =
+      rw (carried .same-carried x s (each-head good) g)
+      (ap (λ (n : ℕ). cond (M .same x s) 0 (n + 1)) (place-carried met s (each-tail good) g))
+
+  ways-carried : (f : ℕ)
+      → ((met : List (M .State)) (s : M .State) → Each Good met → Good s → visit N f (map enc met) (enc s) ≡ map enc (visit M f met s))
+      → (met : List (M .State)) (s : M .State) → Each Good met → Good s → M .asks s ≡ true
+      → visitWays N (visit N f) (map enc met) (enc s) ≡ map enc (visitWays M (visit M f) met s)
+  unfolding visitWays
+  ways-carried f below met s good g q =
+      let g1 = law .good-step Holds s g q in
+      let g2 = law .good-step Fails s g q in
+      let good1 = visit-good law f met (M .step Holds s) good g1 in
+      let good2 = visit-good law f (visit M f met (M .step Holds s)) (M .step Fails s) good1 g2 in
+      rw (
+        carried .step-carried Holds s g q,
+        carried .step-carried Fails s g q,
+        carried .step-carried Absent s g q,
+        below met (M .step Holds s) good g1,
+        below (visit M f met (M .step Holds s)) (M .step Fails s) good1 g2,
+      )
+      (below _ (M .step Absent s) good2 (law .good-step Absent s g q))
+
+  pub visit-carried : (f : ℕ) (met : List (M .State)) (s : M .State) → Each Good met → Good s
+      → visit N f (map enc met) (enc s) ≡ map enc (visit M f met s)
+  unfolding visit
+  visit-carried zero met s good g = refl
+  visit-carried (suc f) met s good g = go (λ met s good g. visit-carried f met s good g) (meets M met s) (M .asks s) refl refl
+    where
+      longer : map enc met ++ enc s ∷ [] ≡ map enc (met ++ s ∷ [])
+      longer = sym (map-append enc met (s ∷ []))
+
+      go : ((met : List (M .State)) (s : M .State) → Each Good met → Good s → visit N f (map enc met) (enc s) ≡ map enc (visit M f met s))
+          → (b q : Bool) → meets M met s ≡ b → M .asks s ≡ q → visit N (suc f) (map enc met) (enc s) ≡ map enc (visit M (suc f) met s)
+      go below true q e eq =
+          visit-old N f (map enc met) (enc s) (meets-carried met s good g ∙ e) ∙ sym (ap (map enc) (visit-old M f met s e))
+      go below false false e eq =
+          visit-final N f (map enc met) (enc s) (meets-carried met s good g ∙ e) (carried .asks-carried s g ∙ eq)
+          ∙ longer ∙ sym (ap (map enc) (visit-final M f met s e eq))
+      go below false true e eq =
+          visit-asking N f (map enc met) (enc s) (meets-carried met s good g ∙ e) (carried .asks-carried s g ∙ eq)
+          ∙ ap (λ (l : List (N .State)). visitWays N (visit N f) l (enc s)) longer
+          ∙ ways-carried f below (met ++ s ∷ []) s (each-append met (s ∷ []) good (each-cons g (each-nil Good))) g eq
+          ∙ sym (ap (map enc) (visit-asking M f met s e eq))
+
+  nexts-carried : (met : List (M .State)) (s : M .State) → Each Good met → Good s → nextsOf N (map enc met) (enc s) ≡ nextsOf M met s
+  unfolding nextsOf
+  nexts-carried met s good g = rw (carried .asks-carried s g) (go (M .asks s) refl)
+    where
+      go : (b : Bool) → M .asks s ≡ b
+          → cond b (placeOf N (map enc met) (N .step Holds (enc s)) ∷ placeOf N (map enc met) (N .step Fails (enc s))
+          ∷ placeOf N (map enc met) (N .step Absent (enc s)) ∷ []) (0 ∷ 0 ∷ 0 ∷ [])
+          ≡ cond b (placeOf M met (M .step Holds s) ∷ placeOf M met (M .step Fails s) ∷ placeOf M met (M .step Absent s) ∷ []) (0 ∷ 0 ∷ 0 ∷ [])
+      go false q = refl
+      go true q =
+          rw (
+            carried .step-carried Holds s g q,
+            carried .step-carried Fails s g q,
+            carried .step-carried Absent s g q,
+            place-carried met (M .step Holds s) good (law .good-step Holds s g q),
+            place-carried met (M .step Fails s) good (law .good-step Fails s g q),
+            place-carried met (M .step Absent s) good (law .good-step Absent s g q),
+          )
+
+  pub record-carried : (met : List (M .State)) (s : M .State) → Each Good met → Good s → recordOf N (map enc met) (enc s) ≡ recordOf M met s
+  unfolding recordOf
+  record-carried met s good g = rw (carried .question-carried s g, carried .sets-carried s g, nexts-carried met s good g)
+
+  pub each-record-carried : (met l : List (M .State)) → Each Good met → Each Good l → map (recordOf N (map enc met)) (map enc l) ≡ map (recordOf M met) l
+  each-record-carried met [] good each = refl
+  each-record-carried met (x ∷ l) good each = rw (record-carried met x good (each-head each), each-record-carried met l good (each-tail each))
+
+  pub records-carried : (met : List (M .State)) → Each Good met → recordsOf N (map enc met) ≡ recordsOf M met
+  unfolding recordsOf
+  records-carried met good = ap flat (each-record-carried met met good good)
+
+  three-carried : (met a b c : List (M .State)) (s : M .State) {f : ℕ} → Each Good met → Good s → meets M met s ≡ false → M .asks s ≡ true
+      → Visits N f (map enc (met ++ s ∷ [])) (enc (M .step Holds s)) (map enc a)
+      → Visits N f (map enc (met ++ s ∷ [] ++ a)) (enc (M .step Fails s)) (map enc b)
+      → Visits N f (map enc (met ++ s ∷ [] ++ a ++ b)) (enc (M .step Absent s)) (map enc c)
+      → Visits N (suc f) (map enc met) (enc s) (map enc (s ∷ (a ++ b ++ c)))
+  three-carried met a b c s {f} good g e q v w z =
+      rw (map-append enc (a ++ b) c, map-append enc a b)
+      (asking {f = f} {a = map enc a} {b = map enc b} {c = map enc c} (meets-carried met s good g ∙ e) (carried .asks-carried s g ∙ q)
+      (rw (carried .step-carried Holds s g q) (rw (map-append enc met (s ∷ [])) at v))
+      (rw (carried .step-carried Fails s g q) (rw (map-append enc (met ++ s ∷ []) a, map-append enc met (s ∷ [])) at w))
+      (rw (carried .step-carried Absent s g q)
+      (rw (map-append enc (met ++ s ∷ [] ++ a) b, map-append enc (met ++ s ∷ []) a, map-append enc met (s ∷ [])) at z)))
+
+  pub visits-carried : {f : ℕ} {met news : List (M .State)} {s : M .State} → Visits M f met s news → Each Good met → Good s
+      → Visits N f (map enc met) (enc s) (map enc news)
+  visits-carried {met} {s} (old e) good g = old (meets-carried met s good g ∙ e)
+  visits-carried {met} {s} (final e q) good g = final (meets-carried met s good g ∙ e) (carried .asks-carried s g ∙ q)
+  visits-carried {met} {s} (asking {a = a} {b = b} {c = c} e q v w z) good g =
+      let good1 = each-append met (s ∷ []) good (each-cons g (each-nil Good)) in
+      let good2 = visits-good law v good1 (law .good-step Holds s g q) in
+      three-carried met a b c s good g e q
+      (visits-carried v good1 (law .good-step Holds s g q))
+      (visits-carried w good2 (law .good-step Fails s g q))
+      (visits-carried z (visits-good law w good2 (law .good-step Fails s g q)) (law .good-step Absent s g q))
+
+  each-fit-carried : (l : List (M .State)) → Each Good l → Each (Fit N) (map enc l)
+  each-fit-carried [] good = each-nil (Fit N)
+  each-fit-carried (x ∷ l) good =
+      let g = each-head good in
+      each-cons
+      (record { itself = carried .same-carried x x g g ∙ law .same-refl x g; four = ap length (carried .question-carried x g) ∙ law .question-long x g })
+      (each-fit-carried l (each-tail good))
+
+  -- The builder on encoded states.
+  pub placed-carried : (slots f : ℕ) (s₀ : M .State) → Good s₀ → left s₀ < suc f
+      → placeAll N slots f (enc s₀)
+      ≡ cond (leb (length (visit M (suc f) [] s₀)) slots)
+      (room (memory (map enc (visit M (suc f) [] s₀)) (map (recordOf M (visit M (suc f) [] s₀)) (visit M (suc f) [] s₀)))) full
+  placed-carried slots f s₀ g h =
+      let v = visits-exist law f [] s₀ g h in
+      let good = visits-good law (v .1) (each-nil Good) g in
+      rw (visits-visit (v .1), ← each-record-carried (v .0) (v .0) good good, ← length-map (v .0) enc)
+      (placed-visits N slots (visits-carried (v .1) (each-nil Good) g) (each-fit-carried (v .0) good))

@@ -1,0 +1,4 @@
+pub mod Finding
+pub mod Storing
+pub mod Meeting
+pub mod Starting

@@ -1,0 +1,89 @@
+-- What the functions that place states ask and promise, in words.
+--   Ready       the sizes that placing asks; Held, Search, Store what the functions below it ask
+--   Stored      what storing a state and its record leaves
+--   Grown       the slots used grow, and stay within the slots there are
+--   AfterKept   the table's words after the last record stay
+--   Placing     what placing ways or states leaves, where the theory says p
+--   Meeting     what meeting the state c leaves, by the answer
+use Prim.Native.Nat.{ℕ, _+_, _*_, _≤_, _<_}
+use mathlib.Core.Path.{_≡_}
+use mathlib.Core.Bool.{Bool, true, false}
+use mathlib.Core.List.{List}
+use lib.ListN.{length, take, drop}
+use Rattle.lists.specs.Filters.{maxFilters}
+use Rattle.tables.specs.Tables.{recordWords, maxSlots}
+use Rattle.slots.specs.Words.{filterSlot, slotWords}
+use Rattle.machine.specs.Box.{slotsIn}
+use Rattle.automaton.specs.Machines.{meets, placeOf}
+use Rattle.automaton.specs.Placing.{Memory, Placed, stored}
+use Rattle.builder.specs.Memory.{memoryOf, statesIn, outOf}
+use Rattle.builder.specs.declared.Room.{Room}
+use Rattle.builder.specs.declared.Room.the-variants as R
+use Rattle.builder.specs.declared.Met.{Met}
+use Rattle.builder.specs.declared.Met.the-variants as M
+
+pub record Ready (n slots : ℕ) (ranks : List ℕ) (at used : ℕ) (t s : List ℕ) : Type 0 where
+  pub filters : n ≤ maxFilters
+  pub ranked : length ranks ≡ maxFilters
+  pub inside : at < used
+  pub within : used ≤ slots
+  pub few : slots ≤ maxSlots
+  pub tabled : recordWords * slots ≤ length t
+  pub scratched : slotWords * slots ≤ length s
+
+-- A state lies in slot `at`.
+pub record Held (n at : ℕ) (s : List ℕ) : Type 0 where
+  pub filters : n ≤ maxFilters
+  pub slotted : slotWords * (at + 1) ≤ length s
+
+-- The slots used are searched for a candidate.
+pub record Search (n used : ℕ) (s c : List ℕ) : Type 0 where
+  pub filters : n ≤ maxFilters
+  pub slotted : slotWords * used ≤ length s
+  pub whole : length c ≡ filterSlot * n
+
+-- A candidate finds a slot.
+pub record Store (n slots : ℕ) (ranks : List ℕ) (used : ℕ) (t s c : List ℕ) : Type 0 where
+  pub filters : n ≤ maxFilters
+  pub ranked : length ranks ≡ maxFilters
+  pub below : used < slots
+  pub few : slots ≤ maxSlots
+  pub tabled : recordWords * slots ≤ length t
+  pub scratched : slotWords * slots ≤ length s
+  pub whole : length c ≡ filterSlot * n
+
+-- The candidate and its record are stored, and no other state, record or word behind is touched.
+pub record Stored (n slots : ℕ) (ranks : List ℕ) (used : ℕ) (t s c t' s' : List ℕ) : Type 0 where
+  pub memory : memoryOf n ranks (used + 1) t' s' ≡ stored (slotsIn n ranks) c (memoryOf n ranks used t s)
+  pub after : drop (recordWords * (used + 1)) t' ≡ drop (recordWords * (used + 1)) t
+  pub kept : take (slotWords * used) s' ≡ take (slotWords * used) s
+  pub beyond : drop (slotWords * slots) s' ≡ drop (slotWords * slots) s
+
+abbrev pub Grown : ℕ → ℕ → Room → Type 0
+Grown used slots R.Full = Unit {0}
+Grown used slots (R.Used u) = (used ≤ u) × (u ≤ slots)
+
+abbrev pub AfterKept : Room → List ℕ → List ℕ → Type 0
+AfterKept R.Full t t' = Unit {0}
+AfterKept (R.Used u) t t' = drop (recordWords * u) t' ≡ drop (recordWords * u) t
+
+pub record Placing (n slots : ℕ) (ranks : List ℕ) (used : ℕ) (t s : List ℕ) (r : Room) (t' s' : List ℕ) (p : Placed (slotsIn n ranks)) : Type 0 where
+  pub comes : outOf n ranks r t' s' ≡ p
+  pub grows : Grown used slots r
+  pub after : AfterKept r t t'
+  pub behind : drop (recordWords * slots) t' ≡ drop (recordWords * slots) t
+  pub kept : take (slotWords * used) s' ≡ take (slotWords * used) s
+  pub beyond : drop (slotWords * slots) s' ≡ drop (slotWords * slots) s
+
+-- An old state and a lack of room change no word; a new state takes the next slot and record.
+abbrev pub Meeting : (n slots : ℕ) (ranks : List ℕ) → ℕ → List ℕ → List ℕ → List ℕ → Met → List ℕ → List ℕ → Type 0
+Meeting n slots ranks used t s c (M.Old i) t' s' =
+    (meets (slotsIn n ranks) (statesIn n used s) c ≡ true) × (placeOf (slotsIn n ranks) (statesIn n used s) c ≡ i) × (i < used) × (t' ≡ t) × (s' ≡ s)
+Meeting n slots ranks used t s c M.New t' s' =
+    (meets (slotsIn n ranks) (statesIn n used s) c ≡ false) × (used < slots) ×
+    (memoryOf n ranks (used + 1) t' s' ≡ stored (slotsIn n ranks) c (memoryOf n ranks used t s)) ×
+    (drop (recordWords * (used + 1)) t' ≡ drop (recordWords * (used + 1)) t) ×
+    (take (slotWords * used) s' ≡ take (slotWords * used) s) ×
+    (drop (slotWords * slots) s' ≡ drop (slotWords * slots) s)
+Meeting n slots ranks used t s c M.Full t' s' =
+    (meets (slotsIn n ranks) (statesIn n used s) c ≡ false) × (slots ≤ used) × (t' ≡ t) × (s' ≡ s)

@@ -1,0 +1,33 @@
+-- `lists_cases::ranks` is safe and ends: `rank_sets` leaves 32 sets, which are lent on.
+-- Assumes nothing.
+use mathlib.Core.Path.{sym, ap, _∙_}
+use lib.ListN.{length}
+use Rattle.lists.specs.Laws.{length-rankSets}
+use borrow.Author.Needs.{needs}
+use Rattle.lists_cases.proofs.ranks.Statement.{statement}
+use Rattle.lists_cases.proofs.ranks.Tie as tie
+
+slice-aggregate-rank-sets : tie.Need-slice-aggregate-rank-sets
+slice-aggregate-rank-sets c = search needs
+
+rank-sets-requires : tie.Need-rank-sets-requires
+rank-sets-requires c κs = search needs
+
+slice-aggregate-show-sets : tie.Need-slice-aggregate-show-sets
+slice-aggregate-show-sets c = sym (ap length (c .before .rank-sets .ensures) ∙ simp length-rankSets)
+
+show-sets-requires : tie.Need-show-sets-requires
+show-sets-requires c κs = search needs
+
+returns : tie.Need-returns
+returns c = search needs
+
+pub ranks-spec : {M : Type 1} → statement M
+ranks-spec =
+    tie.close
+    (tie.spec
+    slice-aggregate-rank-sets
+    rank-sets-requires
+    slice-aggregate-show-sets
+    show-sets-requires
+    returns)

@@ -1,0 +1,43 @@
+-- The machine of a list of filters (document 01, "States and the table"), and the same machine on the words of slots.
+--   boxOf fs       the states of the list fs, compared, asked and stepped
+--   statesOf fs    its states in the order of their numbers: the start is 0, ways are built holds, fails, absent
+--   recordsIn fs   the words of its records
+--   slotsIn n ranks   the machine whose states are the words of a slot of n filters
+use Prim.Native.Nat.{ℕ, suc}
+use mathlib.Core.List.{List, [], _∷_}
+use Rattle.lists.specs.Filters.{Filter, testsIn}
+use Rattle.states.specs.States.{State, questionOf, start, step, sureSet, outSet}
+use Rattle.states.specs.Measure.{asks}
+use Rattle.states.specs.Same.{sameState}
+use Rattle.automaton.specs.Machines.{Machine, visit, recordsOf}
+use Rattle.slots.specs.Slots.{questionIn, asksIn, stepWords, sureSetIn, outSetIn, sameWords}
+use Rattle.slots.specs.Laws.{questionWords}
+
+abbrev pub boxOf : List Filter → Machine
+boxOf fs =
+    record {
+      State = State;
+      same = sameState;
+      asks = λ s. asks (questionOf s);
+      step = λ o s. step fs o s;
+      question = λ s. questionWords (questionOf s);
+      sets = λ s. sureSet fs s ∷ outSet fs s ∷ [];
+    }
+
+-- No path is longer than the list's tests.
+unfoldable pub statesOf : List Filter → List State
+statesOf fs = visit (boxOf fs) (suc (testsIn fs)) [] (start fs)
+
+unfoldable pub recordsIn : List Filter → List ℕ
+recordsIn fs = recordsOf (boxOf fs) (statesOf fs)
+
+abbrev pub slotsIn : ℕ → List ℕ → Machine
+slotsIn n ranks =
+    record {
+      State = List ℕ;
+      same = sameWords;
+      asks = λ w. asksIn n w;
+      step = λ o w. stepWords n ranks o w;
+      question = λ w. questionIn n w;
+      sets = λ w. sureSetIn n ranks w ∷ outSetIn n w ∷ [];
+    }

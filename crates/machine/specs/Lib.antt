@@ -1,0 +1,3 @@
+pub mod Box
+pub mod Laws
+pub mod Carried

@@ -1,0 +1,1 @@
+// The machine of a list of filters; no code.

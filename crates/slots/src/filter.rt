@@ -1,0 +1,169 @@
+// One filter's 32 words.
+ghost use mathlib.Core.Path.{_≡_};
+ghost use Prim.Native.Nat.{_+_, _*_, _≤_};
+ghost use lib.ListN.{length, take, drop};
+ghost use mathlib.Core.List.{_∷_, []};
+ghost use Rattle.lists.specs.Filters.{testWords, testOf, itemOf, itemsOf};
+ghost use Rattle.lists.specs.Accepted.{itemWords};
+ghost use Rattle.states.specs.States.{cutStanding, left};
+ghost use Rattle.slots.specs.Words.{filterSlot, itemsWords, outWords, writtenFilter, readFilter};
+ghost use Rattle.slots.specs.Steps.{over, cleared, item, leftOf, Room, Kept, Two, Cut, Tests};
+use residue::Fact;
+use residue::Residue;
+use residue::Test;
+
+// Words a filter, words a test, tests a filter, and the first word of a filter that is out (specs/Words).
+pub const FILTER_WORDS: usize = 32;
+
+pub const TEST_WORDS: usize = 4;
+
+const MAX_TESTS: usize = 8;
+
+pub const OUT: u32 = 5;
+// A place beyond every filter's words.
+const PAST_END: usize = 33;
+
+// The test that the words kind, mask and value say; a kind that is none reads as the last.
+pub fn test_of(kind: u32, mask: u32, value: u32) -> Test
+    ensures { λ r. ⌜ r ≡ testOf kind mask value ⌝ }
+{
+    match kind {
+        1 => Test::Equal(mask, value),
+        2 => Test::Differs(mask, value),
+        3 => Test::AtMost(value),
+        _ => Test::AtLeast(value),
+    }
+}
+
+// Four words from a place on.
+fn put_words(dst: &mut [u32], at: usize, kind: u32, field: u32, mask: u32, value: u32)
+    requires { ⌜ at + testWords ≤ length (now dst) ⌝ }
+    ensures { λ _. ⌜ now (dst .exit) ≡ over at (kind ∷ field ∷ mask ∷ value ∷ []) (now (dst .entry)) ⌝ }
+{
+    dst[at] = kind;
+    dst[at + 1] = field;
+    dst[at + 2] = mask;
+    dst[at + 3] = value;
+}
+
+// The words of a test from a place on; at most and at least have no mask.
+pub fn put_test(dst: &mut [u32], at: usize, field: u32, test: Test)
+    requires { ⌜ at + testWords ≤ length (now dst) ⌝ }
+    ensures { λ _. ⌜ now (dst .exit) ≡ over at (itemWords (item field test)) (now (dst .entry)) ⌝ }
+{
+    match test {
+        Test::Equal(m, v) => put_words(dst, at, 1, field, m, v),
+        Test::Differs(m, v) => put_words(dst, at, 2, field, m, v),
+        Test::AtMost(v) => put_words(dst, at, 3, field, 0, v),
+        Test::AtLeast(v) => put_words(dst, at, 4, field, 0, v),
+    }
+}
+
+// Zeros from a place on; nothing where the place lies beyond the words.
+pub fn clear_from(dst: &mut [u32], from: usize)
+    ensures { λ _. ⌜ now (dst .exit) ≡ cleared from (now (dst .entry)) ⌝ }
+{
+    let mut i = from;
+    while i < dst.len() {
+        dst[i] = 0;
+        i += 1;
+    }
+}
+
+// A filter that is out: the mark, zeros behind.
+pub fn set_out(dst: &mut [u32])
+    requires { ⌜ length (now dst) ≡ filterSlot ⌝ }
+    ensures { λ _. ⌜ now (dst .exit) ≡ outWords ⌝ }
+{
+    dst[0] = OUT;
+    clear_from(dst, 1);
+}
+
+// What a fact about a field leaves of the test at a place of the words.
+fn left_of(src: &[u32], at: usize, field: u32, fact: Fact) -> Residue
+    requires { ⌜ at + testWords ≤ length (now src) ⌝ }
+    ensures { λ r. ⌜ r ≡ leftOf field fact (itemOf (drop at (now (src .entry)))) ⌝ }
+{
+    let test = test_of(src[at], src[at + 2], src[at + 3]);
+    if src[at + 1] == field {
+        residue::residue_of(fields::full_of(field), fact, test)
+    } else {
+        Residue::Left(test)
+    }
+}
+
+// One more test behind those kept so far: where the next one goes, or a place beyond the words where the filter is out.
+fn keep(dst: &mut [u32], end: usize, field: u32, rest: Residue) -> usize
+    requires { ⌜ Room end (now dst) ⌝ }
+    ensures { λ r. ⌜ Kept end field rest (now (dst .entry)) (now (dst .exit)) r ⌝ }
+{
+    match rest {
+        Residue::True => end,
+        Residue::False => {
+            set_out(dst);
+            PAST_END
+        }
+        Residue::Left(test) => {
+            put_test(dst, end, field, test);
+            end + TEST_WORDS
+        }
+    }
+}
+
+// What a fact leaves of each test, closed up at the front; the place behind the last of them.
+fn cut_tests(src: &[u32], dst: &mut [u32], field: u32, fact: Fact) -> usize
+    requires { ⌜ Two (now src) (now dst) ⌝ }
+    ensures { λ r. ⌜ Cut field fact (now (src .entry)) (now (dst .exit)) r ⌝ }
+{
+    let mut test: usize = 0;
+    let mut end: usize = 0;
+    while test < MAX_TESTS {
+        let at = TEST_WORDS * test;
+        if src[at] == 0 {
+            return end;
+        }
+        end = keep(dst, end, src[at + 1], left_of(src, at, field, fact));
+        if FILTER_WORDS < end {
+            return end;
+        }
+        test += 1;
+    }
+    end
+}
+
+// What a fact about a field leaves of one filter.
+pub fn cut_filter(src: &[u32], dst: &mut [u32], field: u32, fact: Fact)
+    requires { ⌜ Two (now src) (now dst) ⌝ }
+    ensures { λ _. ⌜ now (dst .exit) ≡ writtenFilter (cutStanding field fact (readFilter (now (src .entry)))) ⌝ }
+{
+    if src[0] == OUT {
+        set_out(dst);
+    } else {
+        let end = cut_tests(src, dst, field, fact);
+        clear_from(dst, end);
+    }
+}
+
+// So many tests of a list, from a place on, in front of a filter's words.
+fn put_tests(list: &[u32], at: usize, count: usize, dst: &mut [u32])
+    requires { ⌜ Tests at count (now list) (now dst) ⌝ }
+    ensures { λ _. ⌜ take (testWords * count) (now (dst .exit)) ≡ itemsWords (itemsOf count (drop at (now (list .entry)))) ⌝ }
+{
+    let mut test: usize = 0;
+    while test < count {
+        let to = TEST_WORDS * test;
+        let from = at + to;
+        let read = test_of(list[from], list[from + 2], list[from + 3]);
+        put_test(dst, to, list[from + 1], read);
+        test += 1;
+    }
+}
+
+// A filter at the start: all its tests, zeros behind.
+pub fn fill(list: &[u32], at: usize, count: usize, dst: &mut [u32])
+    requires { ⌜ Tests at count (now list) (now dst) ⌝ }
+    ensures { λ _. ⌜ now (dst .exit) ≡ writtenFilter (left (itemsOf count (drop at (now (list .entry))))) ⌝ }
+{
+    put_tests(list, at, count, dst);
+    clear_from(dst, TEST_WORDS * count);
+}

@@ -1,0 +1,224 @@
+// A state as the words of one slot: 32 words a filter, its remaining tests first, zeros behind (specs/Words).
+// n is the number of filters; the slices hold the words of exactly these.
+ghost use mathlib.Core.Path.{_≡_};
+ghost use mathlib.Core.Bool.{cond};
+ghost use mathlib.Core.List.{_∷_, [], _++_, map};
+ghost use Prim.Native.Nat.{_+_, _*_, _≤_};
+ghost use lib.ListN.{length, drop, getD};
+ghost use Rattle.lists.specs.Filters.{filtersOf};
+ghost use Rattle.states.specs.States.{allLeft};
+ghost use Rattle.slots.specs.Words.{filterSlot, outWords, written, writtenFilter};
+ghost use Rattle.slots.specs.Slots.{heldSet, outSetIn, sureSetIn, closedIn, closedWords, questionIn, cutWords, stepWords, startWords, freshWords, sameWords};
+ghost use Rattle.slots.specs.Steps.{freshLength, markedSet, State, Ranked, Both, Stepped, Recorded, Starts};
+use filter::FILTER_WORDS;
+use filter::OUT;
+use filter::TEST_WORDS;
+use residue::Fact;
+use residue::Outcome;
+
+pub mod filter;
+
+// The first word of a held filter.
+const HELD: u32 = 0;
+// The words of a list before a filter's tests.
+const HEAD_WORDS: usize = 3;
+
+// The words of a test; all 0 where there is none to ask.
+pub struct Question {
+    pub kind: u32,
+    pub field: u32,
+    pub mask: u32,
+    pub value: u32,
+}
+
+// The filters whose first word is a mark.
+fn marked(w: &[u32], n: usize, mark: u32) -> u32
+    requires { ⌜ State n (now w) ⌝ }
+    ensures { λ r. ⌜ r ≡ markedSet n mark (now (w .entry)) ⌝ }
+{
+    let mut set: u32 = 0;
+    let mut i: usize = 0;
+    while i < n {
+        set = sets::put(set, i as u32, w[FILTER_WORDS * i] == mark);
+        i += 1;
+    }
+    set
+}
+
+pub fn held_set(w: &[u32], n: usize) -> u32
+    requires { ⌜ State n (now w) ⌝ }
+    ensures { λ r. ⌜ r ≡ heldSet n (now (w .entry)) ⌝ }
+{
+    marked(w, n, HELD)
+}
+
+pub fn out_set(w: &[u32], n: usize) -> u32
+    requires { ⌜ State n (now w) ⌝ }
+    ensures { λ r. ⌜ r ≡ outSetIn n (now (w .entry)) ⌝ }
+{
+    marked(w, n, OUT)
+}
+
+// A filter's words, made out unless it stays.
+fn stay(w: &mut [u32], stays: bool)
+    requires { ⌜ length (now w) ≡ filterSlot ⌝ }
+    ensures { λ _. ⌜ now (w .exit) ≡ cond stays (now (w .entry)) outWords ⌝ }
+{
+    if !stays {
+        filter::set_out(w);
+    }
+}
+
+// Each filter that ranks below one of the held set made out.
+fn close_by(w: &mut [u32], n: usize, ranks: &[u32], held: u32)
+    requires { ⌜ Ranked n (now ranks) (now w) ⌝ }
+    ensures { λ _. ⌜ now (w .exit) ≡ closedIn n (now (ranks .entry)) held 0 (now (w .entry)) ⌝ }
+{
+    let mut i: usize = 0;
+    while i < n {
+        let from = FILTER_WORDS * i;
+        let to = from + FILTER_WORDS;
+        let stays = ranks[i] & held == 0;
+        stay(&mut w[from..to], stays);
+        i += 1;
+    }
+}
+
+// Each filter that ranks below a held one made out.
+pub fn close(w: &mut [u32], n: usize, ranks: &[u32])
+    requires { ⌜ Ranked n (now ranks) (now w) ⌝ }
+    ensures { λ _. ⌜ now (w .exit) ≡ closedWords n (now (ranks .entry)) (now (w .entry)) ⌝ }
+{
+    let held = held_set(w, n);
+    close_by(w, n, ranks, held);
+}
+
+// What a fact about a field leaves of each filter.
+fn cut_all(src: &[u32], dst: &mut [u32], n: usize, field: u32, fact: Fact)
+    requires { ⌜ Both n (now src) (now dst) ⌝ }
+    ensures { λ _. ⌜ now (dst .exit) ≡ cutWords n field fact (now (src .entry)) ⌝ }
+{
+    let mut i: usize = 0;
+    while i < n {
+        let from = FILTER_WORDS * i;
+        let to = from + FILTER_WORDS;
+        filter::cut_filter(&src[from..to], &mut dst[from..to], field, fact);
+        i += 1;
+    }
+}
+
+// Held, and every filter that ranks above it is out.
+pub fn sure_set(w: &[u32], n: usize, ranks: &[u32]) -> u32
+    requires { ⌜ Ranked n (now ranks) (now w) ⌝ }
+    ensures { λ r. ⌜ r ≡ sureSetIn n (now (ranks .entry)) (now (w .entry)) ⌝ }
+{
+    let out = out_set(w, n);
+    let mut set: u32 = 0;
+    let mut i: usize = 0;
+    while i < n {
+        let sure = (w[FILTER_WORDS * i] == HELD) & (ranks[i] & !out == 0);
+        set = sets::put(set, i as u32, sure);
+        i += 1;
+    }
+    set
+}
+
+// The first test of the first filter that has any.
+pub fn question_of(w: &[u32], n: usize) -> Question
+    requires { ⌜ State n (now w) ⌝ }
+    ensures { λ r. ⌜ r .kind ∷ r .field ∷ r .mask ∷ r .value ∷ [] ≡ questionIn n (now (w .entry)) ⌝ }
+{
+    let mut i: usize = 0;
+    while i < n {
+        let at = FILTER_WORDS * i;
+        let kind = w[at];
+        if (kind != HELD) & (kind != OUT) {
+            return Question {
+                kind,
+                field: w[at + 1],
+                mask: w[at + 2],
+                value: w[at + 3],
+            };
+        }
+        i += 1;
+    }
+    Question {
+        kind: 0,
+        field: 0,
+        mask: 0,
+        value: 0,
+    }
+}
+
+// The state after the question of src came to an outcome.
+pub fn step_into(src: &[u32], dst: &mut [u32], n: usize, ranks: &[u32], outcome: Outcome)
+    requires { ⌜ Stepped n (now ranks) (now src) (now dst) ⌝ }
+    ensures { λ _. ⌜ now (dst .exit) ≡ stepWords n (now (ranks .entry)) outcome (now (src .entry)) ⌝ }
+{
+    let asked = question_of(src, n);
+    let field = asked.field;
+    let test = filter::test_of(asked.kind, asked.mask, asked.value);
+    let fact = residue::fact_of(fields::full_of(field), outcome, test);
+    cut_all(src, dst, n, field, fact);
+    close(dst, n, ranks);
+}
+
+// The first nine words of a record: the question, no next states yet, the sure set and the out set.
+pub fn write_record(w: &[u32], n: usize, ranks: &[u32], rec: &mut [u32])
+    requires { ⌜ Recorded n (now ranks) (now w) (now rec) ⌝ }
+    ensures { λ _. ⌜ now (rec .exit) ≡ freshWords n (now (ranks .entry)) (now (w .entry)) ++ drop freshLength (now (rec .entry)) ⌝ }
+{
+    let asked = question_of(w, n);
+    rec[0] = asked.kind;
+    rec[1] = asked.field;
+    rec[2] = asked.mask;
+    rec[3] = asked.value;
+    rec[4] = 0;
+    rec[5] = 0;
+    rec[6] = 0;
+    rec[7] = sure_set(w, n, ranks);
+    rec[8] = out_set(w, n);
+}
+
+// The same words; the first that differ decide.
+pub fn same(a: &[u32], b: &[u32]) -> bool
+    requires { ⌜ length (now a) ≡ length (now b) ⌝ }
+    ensures { λ r. ⌜ r ≡ sameWords (now (a .entry)) (now (b .entry)) ⌝ }
+{
+    let mut at: usize = 0;
+    while at < a.len() {
+        if a[at] != b[at] {
+            return false;
+        }
+        at += 1;
+    }
+    true
+}
+
+// Every filter of an accepted list with all its tests. A filter begins where the one before it ends.
+fn fill_all(list: &[u32], dst: &mut [u32], n: usize)
+    requires { ⌜ Starts n (now list) (now dst) ⌝ }
+    ensures { λ _. ⌜ now (dst .exit) ≡ written (map allLeft (filtersOf (now (list .entry)))) ⌝ }
+{
+    let mut at: usize = 0;
+    let mut i: usize = 0;
+    while i < n {
+        let from = FILTER_WORDS * i;
+        let to = from + FILTER_WORDS;
+        let count = list[at + 2] as usize;
+        let tests = at + HEAD_WORDS;
+        filter::fill(list, tests, count, &mut dst[from..to]);
+        at = tests + TEST_WORDS * count;
+        i += 1;
+    }
+}
+
+// The start of an accepted list of n filters.
+pub fn start_into(list: &[u32], dst: &mut [u32], n: usize, ranks: &[u32])
+    requires { ⌜ Starts n (now list) (now dst) ⌝ }
+    requires { ⌜ n ≤ length (now ranks) ⌝ }
+    ensures { λ _. ⌜ now (dst .exit) ≡ startWords n (now (ranks .entry)) (now (list .entry)) ⌝ }
+{
+    fill_all(list, dst, n);
+    close(dst, n, ranks);
+}

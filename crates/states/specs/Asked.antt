@@ -1,0 +1,101 @@
+-- No path asks the same question twice: once q was asked, no remaining test on its field asks all of q again, and no later step brings one back.
+--   spentItem q t   t is on another field than q, or does not ask all of q
+--   freshItem q t   t is well formed and spentItem q t
+use mathlib.Core.Path.{_≡_, refl, sym, _∙_, subst}
+use Prim.Native.Nat.{ℕ}
+use mathlib.Core.Bool.{Bool, true, cond, _&&_, false≢true}
+use mathlib.Core.List.{List}
+use lib.Dec.{eqb}
+use borrow.Author.Tests.{eqb-true, eq-eqb}
+use Rattle.residue.specs.Choice.{by-cond, both, first, second}
+use Rattle.residue.specs.Relations.{spent, everyLeft}
+use Rattle.residue.specs.Residues.{residueBy}
+use Rattle.residue.specs.Laws.{same-test-refl, question-spent, spent-stays, spent-other}
+use Rattle.residue.specs.declared.Reading.{Reading}
+use Rattle.residue.specs.declared.Outcome.{Outcome}
+use Rattle.residue.specs.declared.Residue.{Residue}
+use Rattle.residue.specs.declared.Residue.the-variants.{True, False, Left}
+use Rattle.fields.specs.Widths.{full}
+use Rattle.lists.specs.Accepted.{wellItem}
+use Rattle.lists.specs.Filters.{Item, Filter}
+use Rattle.states.specs.States.{State, ask, questionOf, stepBy}
+use Rattle.states.specs.Runs.{wayOf, run, follow}
+use Rattle.states.specs.Standings.{factBy}
+use Rattle.states.specs.Keeps.{run-keeps, follow-keeps}
+use Rattle.states.specs.Every.{everyState, leaves, every-question, every-step}
+use Rattle.states.specs.Well.{wellState, item-test, item-on, item-leaves, well-question}
+
+unfoldable pub spentItem : Item → Item → Bool
+spentItem q t = cond (eqb (t .field) (q .field)) (spent (q .test) (t .test)) true
+
+unfoldable pub freshItem : Item → Item → Bool
+freshItem q t = wellItem t && spentItem q t
+
+fresh-well : (q t : Item) → freshItem q t ≡ true → wellItem t ≡ true
+unfolding freshItem
+fresh-well q t h = first (wellItem t) (spentItem q t) h
+
+fresh-spent : (q t : Item) → freshItem q t ≡ true → eqb (t .field) (q .field) ≡ true → spent (q .test) (t .test) ≡ true
+unfolding freshItem spentItem
+fresh-spent q t h e =
+    subst (λ (b : Bool). cond b (spent (q .test) (t .test)) true ≡ true) e (second (wellItem t) (spentItem q t) h)
+
+-- A residue that leaves a well-formed item, spent where it is on q's field, leaves a fresh one.
+leaves-fresh :
+    (q : Item) (n : ℕ) (d : Residue) → leaves wellItem n d ≡ true → (eqb n (q .field) ≡ true → everyLeft (spent (q .test)) d ≡ true) → leaves (freshItem q) n d ≡ true
+unfolding everyLeft freshItem spentItem
+leaves-fresh q n True h f = refl
+leaves-fresh q n False h f = refl
+leaves-fresh q n (Left u) h f =
+    both (wellItem (record { field = n; test = u })) (cond (eqb n (q .field)) (spent (q .test) u) true) h
+    (by-cond (λ (b : Bool). b ≡ true) (eqb n (q .field)) f (λ _. refl))
+
+-- Once q was asked every remaining item is fresh.
+pub asked-fresh : (fs : List Filter) (o : Outcome) (q : Item) (s : State) → wellItem q ≡ true → wellState s ≡ true → everyState (freshItem q) (stepBy fs o q s) ≡ true
+unfolding freshItem spentItem
+asked-fresh fs o q s hq h =
+    every-step wellItem (freshItem q) fs o q s
+    (λ t g e.
+    leaves-fresh q (q .field) (residueBy (full (q .field)) (factBy o q) (t .test)) (item-leaves (q .field) (factBy o q) t e g)
+    (λ _. question-spent (full (q .field)) o (q .test) (t .test) (item-test q hq)))
+    (λ t g e. both (wellItem t) (cond (eqb (t .field) (q .field)) (spent (q .test) (t .test)) true) g (rw e))
+    h
+
+pub fresh-step : (q : Item) (fs : List Filter) (o : Outcome) (p : Item) (s : State) → everyState (freshItem q) s ≡ true → everyState (freshItem q) (stepBy fs o p s) ≡ true
+fresh-step q fs o p s h =
+    every-step (freshItem q) (freshItem q) fs o p s
+    (λ t g e.
+    leaves-fresh q (p .field) (residueBy (full (p .field)) (factBy o p) (t .test)) (item-leaves (p .field) (factBy o p) t e (fresh-well q t g))
+    (λ z.
+    spent-stays (full (p .field)) (factBy o p) (q .test) (t .test) (item-on (p .field) t e (fresh-well q t g))
+    (fresh-spent q t g (eq-eqb (t .field) (q .field) (eqb-true (t .field) (p .field) e ∙ eqb-true (p .field) (q .field) z)))))
+    (λ t g e. g)
+    h
+
+-- A fresh item is not the question.
+fresh-other : (q : Item) → wellItem q ≡ true → freshItem q q ≡ true → ⊥
+fresh-other q h f =
+    false≢true
+    (sym (spent-other (full (q .field)) (q .test) (q .test) (item-test q h) (fresh-spent q q f (eq-eqb (q .field) (q .field) refl))) ∙ same-test-refl (q .test))
+
+fresh-unasked : (q : Item) (s : State) → wellItem q ≡ true → everyState (freshItem q) s ≡ true → questionOf s ≡ ask q → ⊥
+fresh-unasked q s h f e = fresh-other q h (every-question (freshItem q) s q f e)
+
+-- Whatever outcomes follow, q is not asked again.
+pub never-twice :
+    (fs : List Filter) (o : Outcome) (os : List Outcome) (q : Item) (s : State) → wellState s ≡ true → questionOf s ≡ ask q →
+    questionOf (follow fs os (stepBy fs o q s)) ≡ ask q → ⊥
+never-twice fs o os q s h e =
+    let hq = well-question s q h e in
+    fresh-unasked q (follow fs os (stepBy fs o q s)) hq
+    (follow-keeps fs (λ (x : State). everyState (freshItem q) x ≡ true) (λ o′ p x _ f. fresh-step q fs o′ p x f) os (stepBy fs o q s) (asked-fresh fs o q s hq h))
+
+-- The same for the path of a frame.
+pub run-never-twice :
+    (fs : List Filter) (r : ℕ → Reading) (n : ℕ) (q : Item) (s : State) → wellState s ≡ true → questionOf s ≡ ask q →
+    questionOf (run fs r n (stepBy fs (wayOf r q) q s)) ≡ ask q → ⊥
+run-never-twice fs r n q s h e =
+    let hq = well-question s q h e in
+    fresh-unasked q (run fs r n (stepBy fs (wayOf r q) q s)) hq
+    (run-keeps fs r (λ (x : State). everyState (freshItem q) x ≡ true) (λ p x _ f. fresh-step q fs (wayOf r p) p x f) n (stepBy fs (wayOf r q) q s)
+    (asked-fresh fs (wayOf r q) q s hq h))

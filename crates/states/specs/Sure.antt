@@ -1,0 +1,218 @@
+-- What a state that tells the truth says of the match set: sure filters match, out filters do not, and at a final state nothing else is left.
+--   Top fs r m i k     filter k fires, is i or ranks above it, and none below number m that fires ranks above k
+--   Shut fs s          every filter that ranks below a held one is out
+use Prim.Native.Nat.{ℕ, zero, suc, _<_}
+use mathlib.Core.Path.{_≡_, refl, sym, ap, _∙_, subst}
+use mathlib.Core.Logic.{_⊎_, inl, inr, ⊎-elim}
+use mathlib.Core.Bool.{Bool, true, false, not, _&&_, false≢true}
+use mathlib.Core.List.{List, [], _∷_}
+use native.Mathlib.Nat.{not-suc-le-zero, eq-or-lt-of-le, le-of-suc-le-suc}
+use lib.Dec.{ltb}
+use lib.ListN.{length}
+use borrow.Author.Tests.{ltb-true, not-true}
+use Rattle.residue.specs.Choice.{never, same-bool, both, first, second}
+use Rattle.residue.specs.declared.Reading.{Reading}
+use Rattle.sets.specs.Sets.{some}
+use Rattle.sets.specs.Laws.{some-true, some-none}
+use Rattle.lists.specs.Filters.{Filter}
+use Rattle.lists.specs.Laws.{above-irreflexive, above-transitive}
+use Rattle.lists.specs.Ranks.{testsOf, above, allHold, fires, matches}
+use Rattle.states.specs.States.{Standing, out, left, State, standing, isHeld, isOut, nothing, questionOf, sure, isOpen}
+use Rattle.states.specs.Keeps.{none-asked}
+use Rattle.states.specs.Truth.{Says, Tells, held-fires}
+
+-- A test decides.
+pub by-test : (P : Type 0) (b : Bool) → (b ≡ true → P) → (b ≡ false → P) → P
+by-test P true f g = f refl
+by-test P false f g = g refl
+
+pub clash : {P : Type 0} (b : Bool) → b ≡ true → b ≡ false → P
+clash b e z = absurd (false≢true (sym z ∙ e))
+
+pub not-held-out : (x : Standing) → isHeld x ≡ true → isOut x ≡ false
+unfolding isHeld isOut
+not-held-out out e = absurd (false≢true e)
+not-held-out (left ts) e = refl
+
+out-said : (fs : List Filter) (r : ℕ → Reading) (i : ℕ) (x : Standing) → isOut x ≡ true → Says fs r x i → Says fs r out i
+unfolding isOut
+out-said fs r i out e t = t
+out-said fs r i (left ts) e t = absurd (false≢true e)
+
+-- ---- firing, matching and sure, taken apart
+
+module _ (fs : List Filter) (r : ℕ → Reading) where
+  pub fires-below : (i : ℕ) → fires fs r i ≡ true → i < length fs
+  unfolding fires
+  fires-below i e = ltb-true i (length fs) (first (ltb i (length fs)) (allHold r (testsOf fs i)) e)
+
+  abbrev betters : ℕ → Bool
+  betters i = some (length fs) (λ j. above fs j i && fires fs r j)
+
+  pub matches-fires : (i : ℕ) → matches fs r i ≡ true → fires fs r i ≡ true
+  unfolding matches
+  matches-fires i e = first (fires fs r i) (not (betters i)) e
+
+  -- No filter that ranks above one that matches fires.
+  pub matches-top : (i : ℕ) → matches fs r i ≡ true → (j : ℕ) → above fs j i ≡ true → fires fs r j ≡ true → ⊥
+  unfolding matches
+  matches-top i e j a f =
+      clash (betters i)
+      (some-true (length fs) (λ k. above fs k i && fires fs r k) j (fires-below j f) (both (above fs j i) (fires fs r j) a f))
+      (not-true (betters i) (second (fires fs r i) (not (betters i)) e))
+
+  pub top-matches : (i : ℕ) → fires fs r i ≡ true → ((j : ℕ) → above fs j i ≡ true → fires fs r j ≡ true → ⊥) → matches fs r i ≡ true
+  unfolding matches
+  top-matches i e h =
+      both (fires fs r i) (not (betters i)) e
+      (ap not
+      (some-none (length fs) (λ j. above fs j i && fires fs r j)
+      (λ j _. never (above fs j i && fires fs r j) (λ z. h j (first (above fs j i) (fires fs r j) z) (second (above fs j i) (fires fs r j) z)))))
+
+module _ (fs : List Filter) where
+  abbrev doubts : State → ℕ → Bool
+  doubts s i = some (length fs) (λ j. above fs j i && not (isOut (standing s j)))
+
+  pub sure-held : (s : State) (i : ℕ) → sure fs s i ≡ true → isHeld (standing s i) ≡ true
+  unfolding sure
+  sure-held s i e = first (isHeld (standing s i)) (not (doubts s i)) e
+
+  -- Filters of the list that rank above a sure one are out.
+  pub sure-above : (s : State) (i : ℕ) → sure fs s i ≡ true → (j : ℕ) → j < length fs → above fs j i ≡ true → isOut (standing s j) ≡ true
+  unfolding sure
+  sure-above s i e j l a =
+      by-test (isOut (standing s j) ≡ true) (isOut (standing s j)) (λ z. z)
+      (λ z.
+      clash (doubts s i)
+      (some-true (length fs) (λ k. above fs k i && not (isOut (standing s k))) j l (both (above fs j i) (not (isOut (standing s j))) a (ap not z)))
+      (not-true (doubts s i) (second (isHeld (standing s i)) (not (doubts s i)) e)))
+
+  pub held-sure :
+      (s : State) (i : ℕ) → isHeld (standing s i) ≡ true → ((j : ℕ) → j < length fs → above fs j i ≡ true → isOut (standing s j) ≡ true) → sure fs s i ≡ true
+  unfolding sure
+  held-sure s i e h =
+      both (isHeld (standing s i)) (not (doubts s i)) e
+      (ap not
+      (some-none (length fs) (λ j. above fs j i && not (isOut (standing s j)))
+      (λ j l. never (above fs j i && not (isOut (standing s j)))
+      (λ z.
+      clash (isOut (standing s j)) (h j l (first (above fs j i) (not (isOut (standing s j))) z))
+      (not-true (isOut (standing s j)) (second (above fs j i) (not (isOut (standing s j))) z))))))
+
+-- ---- the topmost filter that fires
+
+pub record Top (fs : List Filter) (r : ℕ → Reading) (m i k : ℕ) : Type 0 where
+  pub fired : fires fs r k ≡ true
+  pub over : (k ≡ i) ⊎ (above fs k i ≡ true)
+  pub best : (j : ℕ) → j < m → above fs j k ≡ true → fires fs r j ≡ true → ⊥
+
+module _ (fs : List Filter) (r : ℕ → Reading) where
+  over-over : (i j k : ℕ) → above fs k j ≡ true → (j ≡ i) ⊎ (above fs j i ≡ true) → above fs k i ≡ true
+  over-over i j k a (inl e) = subst (λ (n : ℕ). above fs k n ≡ true) e a
+  over-over i j k a (inr b) = above-transitive fs k j i a b
+
+  climb : (m i k : ℕ) → Top fs r m i k → (k′ : ℕ) × Top fs r (suc m) i k′
+  climb m i k t =
+      by-test ((k′ : ℕ) × Top fs r (suc m) i k′) (above fs m k && fires fs r m)
+      (λ e.
+      let a = first (above fs m k) (fires fs r m) e in (
+        m,
+        record {
+          fired = second (above fs m k) (fires fs r m) e;
+          over = inr (over-over i k m a (t .over));
+          best = λ j l b f. ⊎-elim
+              (λ (z : j ≡ m). clash (above fs m m) (subst (λ (n : ℕ). above fs n m ≡ true) z b) (above-irreflexive fs m))
+              (λ (z : j < m). t .best j z (above-transitive fs j m k b a) f)
+              (eq-or-lt-of-le (le-of-suc-le-suc l));
+        },
+      ))
+      (λ e. (
+        k,
+        record {
+          fired = t .fired;
+          over = t .over;
+          best = λ j l b f. ⊎-elim
+              (λ (z : j ≡ m). clash (above fs m k && fires fs r m)
+              (both (above fs m k) (fires fs r m) (subst (λ (n : ℕ). above fs n k ≡ true) z b) (subst (λ (n : ℕ). fires fs r n ≡ true) z f)) e)
+              (λ (z : j < m). t .best j z b f)
+              (eq-or-lt-of-le (le-of-suc-le-suc l));
+        },
+      ))
+
+  topmost : (m i : ℕ) → fires fs r i ≡ true → (k : ℕ) × Top fs r m i k
+  topmost zero i e = (i, record { fired = e; over = inl refl; best = λ j l b f. not-suc-le-zero l })
+  topmost (suc m) i e = let t = topmost m i e in climb m i (t .0) (t .1)
+
+  -- In a state that tells the truth the topmost is not out.
+  top-not-out : (s : State) → Tells fs r s → (i k : ℕ) → Top fs r (length fs) i k → isOut (standing s k) ≡ false
+  top-not-out s t i k p =
+      never (isOut (standing s k))
+      (λ e.
+      ⊎-elim
+      (λ (z : fires fs r k ≡ false). clash (fires fs r k) (p .fired) z)
+      (λ (z : (j : ℕ) × (above fs j k ≡ true) × (fires fs r j ≡ true)). p .best (z .0) (fires-below fs r (z .0) (z .2)) (z .1) (z .2))
+      (out-said fs r k (standing s k) e (t k)))
+
+  pub sure-matches : (s : State) → Tells fs r s → (i : ℕ) → sure fs s i ≡ true → matches fs r i ≡ true
+  sure-matches s t i e =
+      top-matches fs r i (held-fires fs r s t i (sure-held fs s i e))
+      (λ j a f.
+      let p = topmost (length fs) j f in
+      let k = p .0 in
+      clash (isOut (standing s k))
+      (sure-above fs s i e k (fires-below fs r k (p .1 .fired)) (⊎-elim
+      (λ (z : k ≡ j). subst (λ (n : ℕ). above fs n i ≡ true) (sym z) a)
+      (λ (z : above fs k j ≡ true). above-transitive fs k j i z a)
+      (p .1 .over)))
+      (top-not-out s t j k (p .1)))
+
+pub out-not-matches : (fs : List Filter) (r : ℕ → Reading) (s : State) → Tells fs r s → (i : ℕ) → isOut (standing s i) ≡ true → matches fs r i ≡ false
+out-not-matches fs r s t i e =
+    never (matches fs r i)
+    (λ m.
+    ⊎-elim
+    (λ (z : fires fs r i ≡ false). clash (fires fs r i) (matches-fires fs r i m) z)
+    (λ (z : (j : ℕ) × (above fs j i ≡ true) × (fires fs r j ≡ true)). matches-top fs r i m (z .0) (z .1) (z .2))
+    (out-said fs r i (standing s i) e (t i)))
+
+-- ---- a final state
+
+-- Each filter is out or held.
+pub final-standing : (s : State) → questionOf s ≡ nothing → (i : ℕ) → isOut (standing s i) ≡ false → isHeld (standing s i) ≡ true
+unfolding questionOf isOut isHeld
+final-standing [] e i h = absurd (false≢true (sym h))
+final-standing (out ∷ s) e zero h = absurd (false≢true (sym h))
+final-standing (out ∷ s) e (suc i) h = final-standing s e i h
+final-standing (left [] ∷ s) e zero h = refl
+final-standing (left [] ∷ s) e (suc i) h = final-standing s e i h
+final-standing (left (t ∷ ts) ∷ s) e i h = absurd (none-asked t (sym e))
+
+-- What matches is sure at a final state.
+final-matches : (fs : List Filter) (r : ℕ → Reading) (s : State) → Tells fs r s → questionOf s ≡ nothing → (i : ℕ) → matches fs r i ≡ true → sure fs s i ≡ true
+final-matches fs r s t e i m =
+    held-sure fs s i
+    (final-standing s e i (never (isOut (standing s i)) (λ z. clash (matches fs r i) m (out-not-matches fs r s t i z))))
+    (λ j l a.
+    by-test (isOut (standing s j) ≡ true) (isOut (standing s j)) (λ z. z)
+    (λ z. absurd (matches-top fs r i m j a (held-fires fs r s t j (final-standing s e j z)))))
+
+pub final-sure : (fs : List Filter) → (r : ℕ → Reading) (s : State) → Tells fs r s → questionOf s ≡ nothing → (i : ℕ) → sure fs s i ≡ matches fs r i
+final-sure fs r s t e i = same-bool (sure fs s i) (matches fs r i) (sure-matches fs r s t i) (final-matches fs r s t e i)
+
+abbrev pub Shut : List Filter → State → Type 0
+Shut fs s = (i j : ℕ) → j < length fs → above fs j i ≡ true → isHeld (standing s j) ≡ true → isOut (standing s i) ≡ true
+
+pub final-none-open : (fs : List Filter) (s : State) → Shut fs s → questionOf s ≡ nothing → (i : ℕ) → isOpen fs s i ≡ false
+unfolding isOpen
+final-none-open fs s c e i =
+    never (ltb i (length fs) && not (sure fs s i) && not (isOut (standing s i)))
+    (λ z.
+    let front = ltb i (length fs) && not (sure fs s i) in
+    let o : isOut (standing s i) ≡ false = not-true (isOut (standing s i)) (second front (not (isOut (standing s i))) z) in
+    let n : sure fs s i ≡ false = not-true (sure fs s i) (second (ltb i (length fs)) (not (sure fs s i)) (first front (not (isOut (standing s i))) z)) in
+    clash (sure fs s i)
+    (held-sure fs s i (final-standing s e i o)
+    (λ j l a.
+    by-test (isOut (standing s j) ≡ true) (isOut (standing s j)) (λ y. y)
+    (λ y. clash (isOut (standing s i)) (c i j l a (final-standing s e j y)) o)))
+    n)
