@@ -1,3 +1,4 @@
 pub mod Box
 pub mod Laws
 pub mod Carried
+pub mod Cases
