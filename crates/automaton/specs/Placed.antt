@@ -67,17 +67,17 @@ record-asking M whole s q fit = rw q (set-nexts (M .question s) (M .sets s) _ _ 
 
 -- One way, case by case.
 
-way-old : (M : Machine) (slots : ℕ) (build : ℕ → M .State → Memory M → Placed M) (o : Outcome) (at : ℕ) (s t : M .State) (m : Memory M)
+pub way-old : (M : Machine) (slots : ℕ) (build : ℕ → M .State → Memory M → Placed M) (o : Outcome) (at : ℕ) (s t : M .State) (m : Memory M)
     → M .step o s ≡ t → meets M (m .met) t ≡ true → placeWay M slots build o at s m ≡ room (linked M o at (placeOf M (m .met) t) m)
 unfolding placeWay
 way-old M slots build o at s t m leads e = rw (← leads, rw (← leads) at e, placeWay)
 
-way-slotless : (M : Machine) (slots : ℕ) (build : ℕ → M .State → Memory M → Placed M) (o : Outcome) (at : ℕ) (s t : M .State) (m : Memory M)
+pub way-slotless : (M : Machine) (slots : ℕ) (build : ℕ → M .State → Memory M → Placed M) (o : Outcome) (at : ℕ) (s t : M .State) (m : Memory M)
     → M .step o s ≡ t → meets M (m .met) t ≡ false → slots ≤ length (m .met) → placeWay M slots build o at s m ≡ full
 unfolding placeWay
 way-slotless M slots build o at s t m leads e h = rw (rw (← leads) at e, placeWay, le-leb slots (length (m .met)) h)
 
-way-new : (M : Machine) (slots : ℕ) (build : ℕ → M .State → Memory M → Placed M) (o : Outcome) (at : ℕ) (s t : M .State) (m : Memory M)
+pub way-new : (M : Machine) (slots : ℕ) (build : ℕ → M .State → Memory M → Placed M) (o : Outcome) (at : ℕ) (s t : M .State) (m : Memory M)
     → M .step o s ≡ t → meets M (m .met) t ≡ false → length (m .met) < slots
     → placeWay M slots build o at s m
     ≡ andThen M (build (length (m .met)) t (stored M t m)) (λ m'. room (linked M o at (length (m .met)) m'))
@@ -86,7 +86,7 @@ way-new M slots build o at s t m leads e h = rw (← leads, rw (← leads) at e,
 
 -- The ways of a state, case by case.
 
-state-final : (M : Machine) (slots f at : ℕ) (s : M .State) (m : Memory M) → M .asks s ≡ false → placeState M slots f at s m ≡ room m
+pub state-final : (M : Machine) (slots f at : ℕ) (s : M .State) (m : Memory M) → M .asks s ≡ false → placeState M slots f at s m ≡ room m
 unfolding placeState
 state-final M slots zero at s m q = refl
 state-final M slots (suc f) at s m q = rw (q, placeState)
@@ -99,20 +99,20 @@ state-asking : (M : Machine) (slots f at : ℕ) (s : M .State) (m : Memory M) �
 unfolding placeState
 state-asking M slots f at s m q = rw (q, placeState)
 
-state-full : (M : Machine) (slots f at : ℕ) (s : M .State) (m : Memory M) → M .asks s ≡ true
+pub state-full : (M : Machine) (slots f at : ℕ) (s : M .State) (m : Memory M) → M .asks s ≡ true
     → placeWay M slots (placeState M slots f) Holds at s m ≡ full
     → placeState M slots (suc f) at s m ≡ full
 unfolding andThen
 state-full M slots f at s m q v = rw (state-asking M slots f at s m q, v)
 
-state-room-full : (M : Machine) (slots f at : ℕ) (s : M .State) (m m₁ : Memory M) → M .asks s ≡ true
+pub state-room-full : (M : Machine) (slots f at : ℕ) (s : M .State) (m m₁ : Memory M) → M .asks s ≡ true
     → placeWay M slots (placeState M slots f) Holds at s m ≡ room m₁
     → placeWay M slots (placeState M slots f) Fails at s m₁ ≡ full
     → placeState M slots (suc f) at s m ≡ full
 unfolding andThen
 state-room-full M slots f at s m m₁ q v w = rw (state-asking M slots f at s m q, v, w)
 
-state-rooms : (M : Machine) (slots f at : ℕ) (s : M .State) (m m₁ m₂ : Memory M) (p : Placed M) → M .asks s ≡ true
+pub state-rooms : (M : Machine) (slots f at : ℕ) (s : M .State) (m m₁ m₂ : Memory M) (p : Placed M) → M .asks s ≡ true
     → placeWay M slots (placeState M slots f) Holds at s m ≡ room m₁
     → placeWay M slots (placeState M slots f) Fails at s m₁ ≡ room m₂
     → placeWay M slots (placeState M slots f) Absent at s m₂ ≡ p

@@ -3,8 +3,10 @@
 --   shown b         document 01's numbers for each case of the enum Built
 --   Left            the answer, every word of the table and every word of the scratch afterwards
 --   cleared n ws    the first n words made 0
+--   Answered        an answer and the words afterwards are those of an outcome
 --   outcome l t s   what building the list l in the table t with the scratch s comes to
 use Prim.Native.Nat.{ℕ, _*_, _+_}
+use mathlib.Core.Path.{_≡_}
 use mathlib.Core.Bool.{cond}
 use mathlib.Core.List.{List, _++_}
 use lib.Dec.{ltb}
@@ -71,3 +73,8 @@ outcomeBy (L.Accepted n k) l t s = accepted (filtersOf l) t s
 
 unfoldable pub outcome : List ℕ → List ℕ → List ℕ → Left
 outcome l t s = outcomeBy (listed l) l t s
+
+pub record Answered (l : Left) (b : Built) (t s : List ℕ) : Type 0 where
+  pub answer : shown b ≡ l .answer
+  pub table : t ≡ l .table
+  pub scratch : s ≡ l .scratch

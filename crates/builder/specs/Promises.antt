@@ -1,5 +1,6 @@
 -- What the functions that place states ask and promise, in words.
---   Ready       the sizes that placing asks
+--   Ready       the sizes that placing asks; Held, Search, Store what the functions below it ask
+--   Stored      what storing a state and its record leaves
 --   Grown       the slots used grow, and stay within the slots there are
 --   AfterKept   the table's words after the last record stay
 --   Placing     what placing ways or states leaves, where the theory says p
@@ -11,7 +12,7 @@ use mathlib.Core.List.{List}
 use lib.ListN.{length, take, drop}
 use Rattle.lists.specs.Filters.{maxFilters}
 use Rattle.tables.specs.Tables.{recordWords, maxSlots}
-use Rattle.slots.specs.Words.{slotWords}
+use Rattle.slots.specs.Words.{filterSlot, slotWords}
 use Rattle.machine.specs.Box.{slotsIn}
 use Rattle.automaton.specs.Machines.{meets, placeOf}
 use Rattle.automaton.specs.Placing.{Memory, Placed, stored}
@@ -29,6 +30,34 @@ pub record Ready (n slots : ℕ) (ranks : List ℕ) (at used : ℕ) (t s : List 
   pub few : slots ≤ maxSlots
   pub tabled : recordWords * slots ≤ length t
   pub scratched : slotWords * slots ≤ length s
+
+-- A state lies in slot `at`.
+pub record Held (n at : ℕ) (s : List ℕ) : Type 0 where
+  pub filters : n ≤ maxFilters
+  pub slotted : slotWords * (at + 1) ≤ length s
+
+-- The slots used are searched for a candidate.
+pub record Search (n used : ℕ) (s c : List ℕ) : Type 0 where
+  pub filters : n ≤ maxFilters
+  pub slotted : slotWords * used ≤ length s
+  pub whole : length c ≡ filterSlot * n
+
+-- A candidate finds a slot.
+pub record Store (n slots : ℕ) (ranks : List ℕ) (used : ℕ) (t s c : List ℕ) : Type 0 where
+  pub filters : n ≤ maxFilters
+  pub ranked : length ranks ≡ maxFilters
+  pub below : used < slots
+  pub few : slots ≤ maxSlots
+  pub tabled : recordWords * slots ≤ length t
+  pub scratched : slotWords * slots ≤ length s
+  pub whole : length c ≡ filterSlot * n
+
+-- The candidate and its record are stored, and no other state, record or word behind is touched.
+pub record Stored (n slots : ℕ) (ranks : List ℕ) (used : ℕ) (t s c t' s' : List ℕ) : Type 0 where
+  pub memory : memoryOf n ranks (used + 1) t' s' ≡ stored (slotsIn n ranks) c (memoryOf n ranks used t s)
+  pub after : drop (recordWords * (used + 1)) t' ≡ drop (recordWords * (used + 1)) t
+  pub kept : take (slotWords * used) s' ≡ take (slotWords * used) s
+  pub beyond : drop (slotWords * slots) s' ≡ drop (slotWords * slots) s
 
 abbrev pub Grown : ℕ → ℕ → Room → Type 0
 Grown used slots R.Full = Unit {0}

@@ -1,4 +1,15 @@
 // A list is compiled into a lent table (document 01, "States and the table" and "Refusal numbers").
+use lists::Listed;
+
+ghost use mathlib.Core.Path.{_≡_};
+ghost use Rattle.lists.specs.Filters.{filtersOf};
+ghost use Rattle.lists.specs.Refusals.{listed};
+ghost use Rattle.lists.specs.declared.Listed.the-variants.{Accepted};
+ghost use Rattle.builder.specs.Outcome.{Answered, accepted, outcome};
+
+pub mod meet;
+pub mod place;
+pub mod start;
 pub mod words;
 
 // The number of states, or a refusal's number with the filter's number or 0.
@@ -24,4 +35,36 @@ pub enum Met {
     Old(usize),
     New,
     Full,
+}
+
+// Compiles an accepted list of n filters and so many tests.
+fn build_accepted(list: &[u32], n: usize, tests: u32, table: &mut [u32], scratch: &mut [u32]) -> Built
+    requires { ⌜ listed (now list) ≡ Accepted n tests ⌝ }
+    ensures { λ r. ⌜ Answered (accepted (filtersOf (now (list .entry))) (now (table .entry)) (now (scratch .entry))) r (now (table .exit)) (now (scratch .exit)) ⌝ }
+{
+    let slots = tables::slots_of(table.len());
+    if scratch.len() < 1024 * slots {
+        return Built::Refused(10, 0);
+    }
+    let mut ranks = [0u32; 32];
+    lists::rank_sets(list, &mut ranks);
+    let room = start::place_start(&ranks, list, n, slots, tests, table, scratch);
+    words::clear(scratch, 1024 * slots);
+    match room {
+        Room::Used(states) => Built::States(states as u32),
+        Room::Full => {
+            words::clear(table, 9 * slots);
+            Built::Refused(11, 0)
+        }
+    }
+}
+
+// Compiles a list into the lent table, with the lent scratch; every list, table and scratch is fine.
+pub fn build(list: &[u32], table: &mut [u32], scratch: &mut [u32]) -> Built
+    ensures { λ r. ⌜ Answered (outcome (now (list .entry)) (now (table .entry)) (now (scratch .entry))) r (now (table .exit)) (now (scratch .exit)) ⌝ }
+{
+    match lists::check(list) {
+        Listed::Refused(number, filter) => Built::Refused(number, filter),
+        Listed::Accepted(filters, tests) => build_accepted(list, filters as usize, tests, table, scratch),
+    }
 }

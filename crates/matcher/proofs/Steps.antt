@@ -1,25 +1,31 @@
 -- One turn of the walk: what each way out of a record says of the walk from record 0.
---   read t n j             word j of record n, as a walk reads it: out of the nine words lent from word 9 n on
+--   window t n             the nine words that are lent from word 9 n on
+--   read t n j             word j of record n, as a walk reads it: out of those nine words
 --   Walking t m r a k n    record n was reached with k questions asked, and the walk from there answers the whole walk
 --   Asking t m r a k n     besides, record n is a question that may be asked
 use Prim.Native.Nat.{ℕ, zero, suc, _+_, _-_, _*_, _≤_, _<_}
 use native.Mathlib.Omega.{arith}
 use mathlib.Core.Path.{_≡_, refl, sym, ap, _∙_}
-use mathlib.Core.Bool.{Bool, true, false, cond, _||_}
+use mathlib.Core.Bool.{Bool, true, false, cond, not, _&&_, _||_, or-true, or-false, false≢true}
 use mathlib.Core.List.{List}
-use borrow.Author.Tests.{eq-eqb, ne-eqb, lt-ltb, le-ltb}
+use borrow.Author.Tests.{lt-ltb, le-ltb, ltb-false, leb-true, leb-false}
 use lib.Dec.{ltb, leb, eqb}
 use lib.ListN.{getD, take, drop}
 use lib.Seq.{getD-take, getD-drop}
 use Rattle.residue.specs.Tests.{holds}
 use Rattle.residue.specs.declared.Reading.{Reading}
 use Rattle.residue.specs.declared.Reading.the-variants.{Absent, Value}
+use Rattle.fields.specs.Widths.{fieldCount}
 use Rattle.lists.specs.Filters.{testOf}
 use Rattle.tables.specs.Tables.{recordWords, wordOf, kindAt, fieldAt}
-use Rattle.matcher.specs.Walk.{Shown, done, stopped, refused, damaged, nextBy, nextOf, arrive, onward, walkFrom}
+use Rattle.matcher.specs.Walk.{Shown, refused, damaged, nextBy, nextOf, arrive, onward, walkFrom}
+use Rattle.matcher.specs.Records.{wordIn, endsAt, endAt}
+
+abbrev pub window : List ℕ → ℕ → List ℕ
+window t n = take (recordWords * n + recordWords - recordWords * n) (drop (recordWords * n) t)
 
 abbrev pub read : List ℕ → ℕ → ℕ → ℕ
-read t n j = getD (take (recordWords * n + recordWords - recordWords * n) (drop (recordWords * n) t)) j 0
+read t n j = wordIn (window t n) j
 
 pub read-word : (t : List ℕ) (n j : ℕ) → j < recordWords → read t n j ≡ wordOf t n j
 unfolding wordOf
@@ -32,30 +38,51 @@ pub record Walking (t : List ℕ) (m : ℕ) (r : ℕ → Reading) (a k n : ℕ) 
   pub within : k ≤ a
   pub rest : walkFrom t m r (a - k) k n ≡ walkFrom t m r a 0 0
 
--- The four ways in which a record answers, with b questions left.
+-- The tests of a record's words, put together: z final, h a kind above 4, g a field above the last, l the allowance used.
+covered : (z h g : Bool) → (z || h || g) ≡ true → (h || (not z && g) || z) ≡ true
+covered true h g e = or-true (h || false)
+covered false true g e = refl
+covered false false true e = refl
+covered false false false e = e
+
+clear :
+    (z h g l : Bool) →
+    (z || h || g || l) ≡ false →
+    (z ≡ false) × ((h || (not z && g)) ≡ false) × (g ≡ false) × (l ≡ false)
+clear true h g l e = absurd (false≢true (sym e))
+clear false true g l e = absurd (false≢true (sym e))
+clear false false true l e = absurd (false≢true (sym e))
+clear false false false true e = absurd (false≢true (sym e))
+clear false false false false e = (refl, refl, refl, refl)
+
+-- Where a record ends the walk, what would come after it does not matter.
+settles : (d f : Bool) → (d || f) ≡ true → (end on on' : Shown) → arrive d f end on ≡ arrive d f end on'
+unfolding arrive
+settles true f e end on on' = refl
+settles false true e end on on' = refl
+settles false false e end on on' = absurd (false≢true e)
+
 module _ (t : List ℕ) (m : ℕ) (r : ℕ → Reading) (k n : ℕ) where
-  at-damage : (b : ℕ) → damaged t n ≡ true → walkFrom t m r b k n ≡ refused 13
-  unfolding walkFrom arrive
-  at-damage zero e = rw e
-  at-damage (suc b) e = rw e
+  -- No question left: what the record shows by itself.
+  at-end : endAt (window t n) k ≡ walkFrom t m r 0 k n
+  unfolding endAt walkFrom damaged
+  at-end =
+      rw (
+        read-word t n 0 (omega arith),
+        read-word t n 1 (omega arith),
+        read-word t n 7 (omega arith),
+        read-word t n 8 (omega arith),
+      )
 
-  at-final :
+  at-rest :
       (b : ℕ) →
-      damaged t n ≡ false →
-      eqb (wordOf t n kindAt) 0 ≡ true →
-      walkFrom t m r b k n ≡ done (wordOf t n 7) (wordOf t n 8) k
-  unfolding walkFrom arrive
-  at-final zero e f = rw (e, f)
-  at-final (suc b) e f = rw (e, f)
+      (damaged t n || eqb (wordOf t n kindAt) 0) ≡ true →
+      walkFrom t m r 0 k n ≡ walkFrom t m r b k n
+  unfolding walkFrom
+  at-rest zero e = refl
+  at-rest (suc b) e = settles (damaged t n) (eqb (wordOf t n kindAt) 0) e _ _ _
 
-  at-halt :
-      damaged t n ≡ false →
-      eqb (wordOf t n kindAt) 0 ≡ false →
-      walkFrom t m r 0 k n ≡ stopped (wordOf t n 7) (wordOf t n 8) k
-  unfolding walkFrom arrive
-  at-halt e f = rw (e, f)
-
-  at-question :
+  pub at-question :
       (b : ℕ) →
       damaged t n ≡ false →
       eqb (wordOf t n kindAt) 0 ≡ false →
@@ -63,72 +90,55 @@ module _ (t : List ℕ) (m : ℕ) (r : ℕ → Reading) (k n : ℕ) where
   unfolding walkFrom arrive
   at-question b e f = rw (e, f)
 
--- What the code's tests of kind and field say.
-module _ (t : List ℕ) (n : ℕ) where
-  final-kind : read t n 0 ≡ 0 → eqb (wordOf t n kindAt) 0 ≡ true
-  final-kind z = eq-eqb _ 0 (sym (read-word t n 0 (omega arith)) ∙ z)
+-- The code's test of a record, in the table's words.
+ends-words :
+    (t : List ℕ) (n k a : ℕ) →
+    endsAt (window t n) k a ≡
+    (eqb (wordOf t n kindAt) 0 || ltb 4 (wordOf t n kindAt) || ltb 13 (wordOf t n fieldAt) || leb a k)
+unfolding endsAt
+ends-words t n k a = rw (read-word t n 0 (omega arith), read-word t n 1 (omega arith))
 
-  question-kind : (read t n 0 ≡ 0 → ⊥) → eqb (wordOf t n kindAt) 0 ≡ false
-  question-kind nz = ne-eqb _ 0 (λ (z : wordOf t n kindAt ≡ 0). nz (read-word t n 0 (omega arith) ∙ z))
-
-  final-sound : read t n 0 ≡ 0 → damaged t n ≡ false
-  unfolding damaged
-  final-sound z =
-      let e : wordOf t n kindAt ≡ 0 = sym (read-word t n 0 (omega arith)) ∙ z in
-      rw e
-
-  question-damaged :
-      (read t n 0 ≡ 0 → ⊥) →
-      damaged t n ≡ (ltb 4 (read t n 0) || ltb 13 (read t n 1))
-  unfolding damaged
-  question-damaged nz =
-      rw (question-kind nz, read-word t n 0 (omega arith), read-word t n 1 (omega arith))
-
--- A record that ends the walk, or is a question.
 module _ {t : List ℕ} {m : ℕ} {r : ℕ → Reading} {a k n : ℕ} (w : Walking t m r a k n) where
-  pub finished : read t n 0 ≡ 0 → done (read t n 7) (read t n 8) k ≡ walkFrom t m r a 0 0
-  finished z =
-      rw (read-word t n 7 (omega arith), read-word t n 8 (omega arith))
-      (sym (at-final t m r k n (a - k) (final-sound t n z) (final-kind t n z)) ∙ w .rest)
+  ended-by :
+      (l : Bool) →
+      leb a k ≡ l →
+      (eqb (wordOf t n kindAt) 0 || ltb 4 (wordOf t n kindAt) || ltb 13 (wordOf t n fieldAt) || l) ≡ true →
+      walkFrom t m r 0 k n ≡ walkFrom t m r (a - k) k n
+  unfolding damaged
+  ended-by true h e =
+      let used : a - k ≡ 0 = omega (arith, leb-true a k h) in
+      rw used
+  ended-by false h e =
+      at-rest t m r k n (a - k)
+      (covered (eqb (wordOf t n kindAt) 0) (ltb 4 (wordOf t n kindAt)) (ltb 13 (wordOf t n fieldAt))
+      (sym (or-false _) ∙ e))
 
-  pub broken :
-      (read t n 0 ≡ 0 → ⊥) →
-      (ltb 4 (read t n 0) || ltb 13 (read t n 1)) ≡ true →
-      refused 13 ≡ walkFrom t m r a 0 0
-  broken nz e = sym (at-damage t m r k n (a - k) (question-damaged t n nz ∙ e)) ∙ w .rest
-
-  pub halted :
-      (read t n 0 ≡ 0 → ⊥) →
-      (ltb 4 (read t n 0) || ltb 13 (read t n 1)) ≡ false →
-      a ≤ k →
-      stopped (read t n 7) (read t n 8) k ≡ walkFrom t m r a 0 0
-  halted nz e h =
-      let used : a - k ≡ 0 = omega (arith, w .within) in
-      let whole : walkFrom t m r 0 k n ≡ walkFrom t m r a 0 0 = rw used at (w .rest) in
-      rw (read-word t n 7 (omega arith), read-word t n 8 (omega arith))
-      (sym (at-halt t m r k n (question-damaged t n nz ∙ e) (question-kind t n nz)) ∙ whole)
+  -- The walk that goes no further shows what the record shows.
+  pub ended : endsAt (window t n) k a ≡ true → endAt (window t n) k ≡ walkFrom t m r a 0 0
+  ended e = at-end t m r k n ∙ ended-by (leb a k) refl (sym (ends-words t n k a) ∙ e) ∙ w .rest
 
 pub record Asking (t : List ℕ) (m : ℕ) (r : ℕ → Reading) (a k n : ℕ) : Type 0 where
   pub left : k < a
+  pub known : read t n fieldAt < fieldCount
   pub rest :
       onward (ltb (nextOf t r n) m) (walkFrom t m r (a - (k + 1)) (k + 1) (nextOf t r n)) ≡
       walkFrom t m r a 0 0
 
 module _ {t : List ℕ} {m : ℕ} {r : ℕ → Reading} {a k n : ℕ} where
-  pub asking :
-      Walking t m r a k n →
-      (read t n 0 ≡ 0 → ⊥) →
-      (ltb 4 (read t n 0) || ltb 13 (read t n 1)) ≡ false →
-      k < a →
-      Asking t m r a k n
-  asking w nz e h =
+  pub asking : Walking t m r a k n → endsAt (window t n) k a ≡ false → Asking t m r a k n
+  unfolding damaged
+  asking w e =
+      let free =
+      clear (eqb (wordOf t n kindAt) 0) (ltb 4 (wordOf t n kindAt)) (ltb 13 (wordOf t n fieldAt)) (leb a k)
+      (sym (ends-words t n k a) ∙ e) in
+      let below : k < a = leb-false a k (free .3) in
       let more : a - k ≡ suc (a - (k + 1)) = omega arith in
       let whole : walkFrom t m r (suc (a - (k + 1))) k n ≡ walkFrom t m r a 0 0 = rw more at (w .rest) in
+      let low : wordOf t n fieldAt ≤ 13 = ltb-false 13 (wordOf t n fieldAt) (free .2) in
       record {
-        left = h;
-        rest =
-            sym (at-question t m r k n (a - (k + 1)) (question-damaged t n nz ∙ e) (question-kind t n nz)) ∙
-            whole;
+        left = below;
+        known = omega (arith, read-word t n fieldAt (omega arith));
+        rest = sym (at-question t m r k n (a - (k + 1)) (free .1) (free .0)) ∙ whole;
       }
 
   -- The way leads to no record, or to the next.
@@ -160,7 +170,7 @@ module _ (t : List ℕ) (r : ℕ → Reading) (n : ℕ) where
           read-word t n 2 (omega arith),
           read-word t n 3 (omega arith),
           read-word t n 4 (omega arith),
-          read-word t n 5 (omega arith)
+          read-word t n 5 (omega arith),
         )
 
     pub way-holds : holds (testOf (read t n 0) (read t n 2) (read t n 3)) x ≡ true → nextOf t r n ≡ read t n 4

@@ -1,8 +1,9 @@
 -- The promise determines the answer, and what it says of each refusal.
 --   shown-injective    answers with the same numbers are the same answer
 --   walk-long          a frame of more than 1,522 bytes is refused with 12
---   walk-misfit        a number of states that is 0 or above the slots is refused with 13
---   walk-fitting       else the walk starts at record 0
+--   walk-none          else no state is refused with 13
+--   walk-misfit        so are more states than slots
+--   walk-fits          else the walk starts at record 0
 use Prim.Native.Nat.{ℕ, _*_, _≤_, _<_}
 use native.Mathlib.Omega.{arith}
 use mathlib.Core.Path.{_≡_, refl, sym, ap, _∙_}

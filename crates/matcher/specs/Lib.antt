@@ -1,3 +1,5 @@
 pub mod Walk
+pub mod Records
+pub mod Chains
 pub mod Laws
 pub mod Cases

@@ -7,7 +7,9 @@ ghost use Rattle.fields.specs.Header.{readingAt};
 ghost use Rattle.lists.specs.Filters.{testOf};
 ghost use Rattle.tables.specs.Tables.{recordWords, maxSlots};
 ghost use Rattle.matcher.specs.Walk.{shown, walkFrom, walk};
-
+ghost use Rattle.matcher.specs.Records.{endsAt, endAt};
+ghost use Rattle.matcher.specs.Chains.{linksAt, Chained};
+ghost use Rattle.fields.specs.Widths.{fieldCount};
 use residue::Reading;
 
 // The end of a walk: at a final record, or with the allowance used, each with the sure set, the out set and the questions asked; or refused, with its number.
@@ -29,10 +31,88 @@ fn holds_word(kind: u32, mask: u32, value: u32, x: u32) -> bool
     }
 }
 
+// Whether the walk goes no further than a record. Returns in a row, no sum of tests: each is a branch that is seldom taken.
+fn ends(words: &[u32], asked: u32, allowance: u32) -> bool
+    requires { ⌜ recordWords ≤ length (now words) ⌝ }
+    ensures { λ r. ⌜ r ≡ endsAt (now (words .entry)) asked allowance ⌝ }
+{
+    let kind = words[0];
+    if kind == 0 {
+        return true;
+    }
+    if 4 < kind {
+        return true;
+    }
+    if 13 < words[1] {
+        return true;
+    }
+    allowance <= asked
+}
+
+// The answer at such a record. Damage comes before the allowance; the field of a final record is not looked at.
+fn end(words: &[u32], asked: u32) -> Answer
+    requires { ⌜ recordWords ≤ length (now words) ⌝ }
+    ensures { λ r. ⌜ shown r ≡ endAt (now (words .entry)) asked ⌝ }
+{
+    if words[0] == 0 {
+        return Answer::Done(words[7], words[8], asked);
+    }
+    if (4 < words[0]) | (13 < words[1]) {
+        return Answer::Refused(13);
+    }
+    Answer::Stopped(words[7], words[8], asked)
+}
+
+// Whether a record asks the field by an equality that misses x and leads to record next.
+fn links(words: &[u32], field: u32, x: u32, next: u32, states: u32) -> bool
+    requires { ⌜ recordWords ≤ length (now words) ⌝ }
+    ensures { λ r. ⌜ r ≡ linksAt (now (words .entry)) field x next states ⌝ }
+{
+    if words[0] != 1 {
+        return false;
+    }
+    if words[1] != field {
+        return false;
+    }
+    if x & words[2] == words[3] {
+        return false;
+    }
+    if words[5] != next {
+        return false;
+    }
+    next < states
+}
+
+// How many records from s on, each two further than the one before, are such links. A table that asks one field for many values
+// is a chain of them; a counter goes on without waiting for the next number of each.
+fn chain(table: &[u32], s: u32, field: u32, x: u32, states: u32, left: u32) -> u32
+    requires { ⌜ s < states ⌝ ∗ ⌜ states ≤ maxSlots ⌝ ∗ ⌜ recordWords * states ≤ length (now table) ⌝ ∗ ⌜ field < fieldCount ⌝ }
+    ensures { λ p. ⌜ Chained (now (table .entry)) states field x left s p ⌝ }
+{
+    let mut p: u32 = 0;
+    while p < left {
+        let n = s + 2 * p;
+        let b = 9 * n as usize;
+        if !links(&table[b..b + 9], field, x, n + 2, states) {
+            return p;
+        }
+        p += 1;
+    }
+    p
+}
+
+// How many links to look for behind record s, which led to next: none unless it was one itself, as in most tables.
+fn room(s: u32, next: u32, left: u32) -> u32
+    requires { ⌜ s < maxSlots ⌝ }
+    ensures { λ r. ⌜ r ≤ left ⌝ }
+{
+    if next == s + 2 { left } else { 0 }
+}
+
 // The walk from record 0 on, over a header that was read. Each way has its own load and its own test:
 // one `next` for all ways would make each record wait for the one before it.
 fn walk_from(present: u32, values: &[u32; 14], table: &[u32], states: u32, allowance: u32) -> Answer
-    requires { ⌜ 0 < states ⌝ ∗ ⌜ recordWords * states ≤ length (now table) ⌝ }
+    requires { ⌜ 0 < states ⌝ ∗ ⌜ states ≤ maxSlots ⌝ ∗ ⌜ recordWords * states ≤ length (now table) ⌝ }
     ensures { λ r. ⌜ shown r ≡ walkFrom (now (table .entry)) states (readingAt present (now (values .entry))) allowance 0 0 ⌝ }
 {
     let mut s: u32 = 0;
@@ -40,18 +120,10 @@ fn walk_from(present: u32, values: &[u32; 14], table: &[u32], states: u32, allow
     loop {
         let b = 9 * s as usize;
         let words = &table[b..b + 9];
-        let kind = words[0];
-        if kind == 0 {
-            return Answer::Done(words[7], words[8], asked);
+        if ends(words, asked, allowance) {
+            return end(words, asked);
         }
-        let field = words[1];
-        if (4 < kind) | (13 < field) {
-            return Answer::Refused(13);
-        }
-        if allowance <= asked {
-            return Answer::Stopped(words[7], words[8], asked);
-        }
-        let Reading::Value(x) = fields::reading_at(present, values, field) else {
+        let Reading::Value(x) = fields::reading_at(present, values, words[1]) else {
             s = words[6];
             if states <= s {
                 return Answer::Refused(13);
@@ -59,7 +131,7 @@ fn walk_from(present: u32, values: &[u32; 14], table: &[u32], states: u32, allow
             asked += 1;
             continue;
         };
-        if holds_word(kind, words[2], words[3], x) {
+        if holds_word(words[0], words[2], words[3], x) {
             s = words[4];
             if states <= s {
                 return Answer::Refused(13);
@@ -67,11 +139,15 @@ fn walk_from(present: u32, values: &[u32; 14], table: &[u32], states: u32, allow
             asked += 1;
             continue;
         }
-        s = words[5];
-        if states <= s {
+        let next = words[5];
+        if states <= next {
             return Answer::Refused(13);
         }
         asked += 1;
+        let most = room(s, next, allowance - asked);
+        let passed = chain(table, next, words[1], x, states, most);
+        s = next + 2 * passed;
+        asked += passed;
     }
 }
 

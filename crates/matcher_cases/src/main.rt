@@ -3,7 +3,6 @@
 ghost use mathlib.Core.Path.{_≡_};
 ghost use Prim.Native.Nat.{_<_, _≤_};
 ghost use lib.ListN.{length};
-
 use libc::STDOUT_FILENO;
 use matcher::Answer;
 
@@ -50,21 +49,176 @@ fn run(label: &[u8], frame: &[u8], table: &[u32], states: u32, allowance: u32) {
 }
 
 // The table that document 01 prints.
+const ECHO: [u32; 90] = [
+    1,
+    11,
+    255,
+    8,
+    1,
+    4,
+    8,
+    0,
+    0,
+    1,
+    4,
+    255,
+    1,
+    2,
+    3,
+    3,
+    1,
+    2,
+    0,
+    0,
+    0,
+    0,
+    0,
+    0,
+    0,
+    5,
+    2,
+    0,
+    0,
+    0,
+    0,
+    0,
+    0,
+    0,
+    1,
+    6,
+    1,
+    11,
+    255,
+    0,
+    5,
+    8,
+    8,
+    0,
+    1,
+    1,
+    4,
+    255,
+    1,
+    6,
+    7,
+    7,
+    0,
+    1,
+    0,
+    0,
+    0,
+    0,
+    0,
+    0,
+    0,
+    6,
+    1,
+    0,
+    0,
+    0,
+    0,
+    0,
+    0,
+    0,
+    0,
+    7,
+    1,
+    4,
+    255,
+    1,
+    9,
+    7,
+    7,
+    0,
+    3,
+    0,
+    0,
+    0,
+    0,
+    0,
+    0,
+    0,
+    4,
+    3,
+];
+
 fn echo_table() -> [u32; 90]
     ensures { λ r. ⌜ length r ≡ 90 ⌝ }
 {
-    [
-        1, 11, 255, 8, 1, 4, 8, 0, 0, // 0
-        1, 4, 255, 1, 2, 3, 3, 1, 2, // 1
-        0, 0, 0, 0, 0, 0, 0, 5, 2, // 2
-        0, 0, 0, 0, 0, 0, 0, 1, 6, // 3
-        1, 11, 255, 0, 5, 8, 8, 0, 1, // 4
-        1, 4, 255, 1, 6, 7, 7, 0, 1, // 5
-        0, 0, 0, 0, 0, 0, 0, 6, 1, // 6
-        0, 0, 0, 0, 0, 0, 0, 0, 7, // 7
-        1, 4, 255, 1, 9, 7, 7, 0, 3, // 8
-        0, 0, 0, 0, 0, 0, 0, 4, 3, // 9
-    ]
+    ECHO
+}
+
+// Three values of the time to live in a row: 9, 8, 1.
+const LIVES: [u32; 63] = [
+    1,
+    4,
+    255,
+    9,
+    1,
+    2,
+    2,
+    0,
+    0,
+    0,
+    0,
+    0,
+    0,
+    0,
+    0,
+    0,
+    1,
+    6,
+    1,
+    4,
+    255,
+    8,
+    3,
+    4,
+    4,
+    0,
+    1,
+    0,
+    0,
+    0,
+    0,
+    0,
+    0,
+    0,
+    2,
+    5,
+    1,
+    4,
+    255,
+    1,
+    5,
+    6,
+    6,
+    0,
+    3,
+    0,
+    0,
+    0,
+    0,
+    0,
+    0,
+    0,
+    4,
+    3,
+    0,
+    0,
+    0,
+    0,
+    0,
+    0,
+    0,
+    0,
+    7,
+];
+
+fn lives_table() -> [u32; 63]
+    ensures { λ r. ⌜ length r ≡ 63 ⌝ }
+{
+    LIVES
 }
 
 // An echo request with TTL 1 at the start of the bytes: IPv4, header of 20 bytes, 28 bytes in all, ICMP, type 8.
@@ -128,13 +282,7 @@ fn damages(frame: &[u8]) {
     damaged_at(b"next 10 in record 0, allowance 1", frame, 4, 10, 1);
     damaged_at(b"next 10 in record 1, allowance 2", frame, 13, 10, 2);
     damaged_at(b"next 10 on a way not taken", frame, 5, 10, 2);
-    damaged_at(
-        b"record 0 leads to itself, allowance 7",
-        frame,
-        4,
-        0,
-        7,
-    );
+    damaged_at(b"record 0 leads to itself, allowance 7", frame, 4, 0, 7);
 }
 
 // Frames without fields, and at the greatest length.
@@ -152,6 +300,16 @@ fn lengths(frame: &[u8], t: &[u32]) {
     run(b"frame of 1523 bytes, 0 states", frame, t, 0, 9);
 }
 
+// Links of a chain count as questions, and each is checked.
+fn chains(frame: &[u8], t: &[u32]) {
+    run(b"chain, allowance 0", frame, t, 7, 0);
+    run(b"chain, allowance 1", frame, t, 7, 1);
+    run(b"chain, allowance 2", frame, t, 7, 2);
+    run(b"chain, allowance 3", frame, t, 7, 3);
+    run(b"chain, next 4 of 4 states, allowance 1", frame, t, 4, 1);
+    run(b"chain, next 4 of 4 states, allowance 2", frame, t, 4, 2);
+}
+
 fn walks(frame: &[u8], t: &[u32]) {
     allowances(frame, t);
     numbers(frame, t);
@@ -164,6 +322,8 @@ fn main() {
     let mut frame = [0u8; 42];
     put_echo(&mut frame);
     walks(&frame, &t);
+    let lives = lives_table();
+    chains(&frame, &lives);
     let mut long = [0u8; 1523];
     put_echo(&mut long);
     lengths(&long, &t);

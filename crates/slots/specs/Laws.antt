@@ -1,7 +1,7 @@
 -- What the code does with words is what the definitions of states say: on the words of a state s of the list fs that fits its slot, each function on words gives the words, or the set, of its counterpart.
 --   questionWords a   the words of a question; zeros where nothing is asked
 -- Encoding: fitsSlot, fits-start, fits-step, fits-next, length-written, read-written, written-injective.
--- Sets: held-written, out-written, sure-written. Steps: closed-written, cut-written, step-written, start-written, start-accepted.
+-- Sets: held-written, out-written, sure-written. Steps: closed-written, cut-written, step-written, next-written, start-written, start-accepted.
 -- Questions: question-written, asks-written, none-written. Records: fresh-written, fresh-nine, length-question. Sameness: same-words-eq, same-words-refl, same-written.
 use Prim.Native.Nat.{ℕ, zero, suc, _+_, _*_, _-_, _^_, _≤_, _<_}
 use mathlib.Core.Path.{_≡_, refl, sym, ap, ap₂, _∙_}
@@ -29,7 +29,7 @@ use Rattle.lists.specs.Accepted.{itemWords, wellFilters}
 use Rattle.lists.specs.Refusals.{listed}
 use Rattle.lists.specs.declared.Listed.the-variants.{Accepted}
 use Rattle.lists.specs.Laws.{accepted-count, accepted-well, item-round, getD-rankSets, rankSet-in, rankSet-clear}
-use Rattle.states.specs.States.{Standing, out, left, State, standing, isHeld, isOut, cutStanding, beaten, closedFrom, closed, allLeft, start, Question, nothing, ask, questionOf, stepBy, sure, sureSet, outSet}
+use Rattle.states.specs.States.{Standing, out, left, State, standing, isHeld, isOut, cutStanding, beaten, closedFrom, closed, allLeft, start, Question, nothing, ask, questionOf, stepBy, stepAt, step, sure, sureSet, outSet}
 use Rattle.states.specs.Measure.{asks}
 use Rattle.states.specs.Same.{sameState, same-state-eq, same-state-refl}
 use Rattle.slots.specs.Words.{filterSlot, outMark, itemsWords, outWords, writtenFilter, written, readFilter}
@@ -172,6 +172,15 @@ module _ (fs : List Filter) (s : State) (l : length s ≡ length fs) (few : leng
       ap (λ (t : Item). stepQuestion (length fs) (rankSets fs) o t (written s)) (ap itemOf (ask-written (length fs) s l fit q e) ∙ item-round q) ∙
       ap (closedWords (length fs) (rankSets fs)) (cut-written (length fs) s l fit f k) ∙
       closed-written fs (map (cutStanding f k) s) (length-map s (cutStanding f k) ∙ l) few (fits-cut f k s fit)
+
+  next-at : (o : Outcome) (a : Question) → questionOf s ≡ a → asks a ≡ true → stepWords (length fs) (rankSets fs) o (written s) ≡ written (stepAt fs o a s)
+  unfolding stepAt asks
+  next-at o nothing e h = absurd (false≢true h)
+  next-at o (ask q) e h = step-written o q e
+
+  pub next-written : (o : Outcome) → asks (questionOf s) ≡ true → stepWords (length fs) (rankSets fs) o (written s) ≡ written (step fs o s)
+  unfolding step
+  next-written o h = next-at o (questionOf s) refl h
 
   pub fresh-written : freshWords (length fs) (rankSets fs) (written s) ≡ questionWords (questionOf s) ++ (0 ∷ 0 ∷ 0 ∷ []) ++ (sureSet fs s ∷ outSet fs s ∷ [])
   unfolding freshWords

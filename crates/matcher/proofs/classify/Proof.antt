@@ -32,7 +32,8 @@ read-header-requires : tie.Need-read-header-requires
 read-header-requires c κs = search needs
 
 walk-from-requires : tie.Need-walk-from-requires
-walk-from-requires c κs = (pos-of-ne-zero (c .before .before .before .before .before .if2 .left), c .before .before .before .if4 .left)
+walk-from-requires c κs =
+    (pos-of-ne-zero (c .before .before .before .before .before .if2 .left), (c .before .before .before .before .if3 .left, c .before .before .before .if4 .left))
 
 returns-5 : tie.Need-returns-5
 returns-5 c =

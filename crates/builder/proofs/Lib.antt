@@ -1,0 +1,3 @@
+pub mod Finding
+pub mod Storing
+pub mod Meeting

@@ -1,0 +1,137 @@
+-- Meeting a candidate: its words in a lent part of a larger array, and what each answer of the search means.
+-- Assumes nothing.
+use Prim.Native.Nat.{ℕ, _+_, _*_, _-_, _≤_, _<_}
+use mathlib.Core.Path.{_≡_, refl, sym, ap, _∙_, subst}
+use mathlib.Core.Bool.{Bool, true, false, cond, false≢true}
+use mathlib.Core.List.{List, _++_}
+use native.Mathlib.Omega.{arith}
+use lib.Arith.{lt-of-le-ne}
+use lib.ListN.{length, take, drop, length-append, length-drop}
+use lib.Seq.{take-at, length-take-le}
+use Rattle.residue.specs.declared.Outcome.{Outcome}
+use Rattle.lists.specs.Filters.{maxFilters}
+use Rattle.slots.specs.Words.{filterSlot, slotWords}
+use Rattle.slots.specs.Slots.{stepWords}
+use Rattle.slots.specs.Steps.{Stepped}
+use Rattle.machine.specs.Box.{slotsIn}
+use Rattle.automaton.specs.Machines.{meets, placeOf}
+use Rattle.automaton.specs.Places.{place-below}
+use Rattle.builder.specs.Memory.{slotAt, statesIn, foundIn}
+use Rattle.builder.specs.Placed.{length-states}
+use Rattle.builder.specs.Promises.{Ready, Search, Store, Stored, Meeting}
+use Rattle.builder.specs.declared.Found.{Found}
+use Rattle.builder.specs.declared.Found.the-variants as F
+use Rattle.builder.specs.declared.Met.the-variants as M
+use Rattle.builder.proofs.Finding.{slot-part}
+
+-- ---- the candidate's words p, in front of an array
+
+module _ (n : ℕ) (array : List ℕ) (few : n ≤ maxFilters) (long : length array ≡ slotWords) where
+  pub front-long : filterSlot * n ≡ length (take (filterSlot * n) array)
+  front-long = sym (length-take-le (filterSlot * n) array (omega arith))
+
+  module _ (p : List ℕ) (as-lent : length p ≡ length (take (filterSlot * n) array)) where
+    abbrev pub front : List ℕ
+    front = take (filterSlot * n) (p ++ drop (filterSlot * n) array)
+
+    pub front-fits : filterSlot * n ≤ length (p ++ drop (filterSlot * n) array)
+    front-fits = omega (arith, length-append p (drop (filterSlot * n) array), front-long, as-lent)
+
+    pub front-is : front ≡ p
+    front-is = take-at p (drop (filterSlot * n) array) (filterSlot * n) (as-lent ∙ sym front-long)
+
+    pub front-whole : length front ≡ filterSlot * n
+    front-whole = ap length front-is ∙ as-lent ∙ sym front-long
+
+    pub front-steps : (ranks : List ℕ) (o : Outcome) (s : List ℕ) (at : ℕ)
+        → p ≡ stepWords n ranks o (take (slotWords * at + filterSlot * n - slotWords * at) (drop (slotWords * at) s))
+        → front ≡ stepWords n ranks o (slotAt n s at)
+    front-steps ranks o s at e = front-is ∙ e ∙ ap (λ (w : List ℕ). stepWords n ranks o w) (slot-part n at s)
+
+-- ---- what the calls ask
+
+pub slot-left : (slots used : ℕ) → used ≤ slots → (used ≡ slots → ⊥) → used < slots
+slot-left slots used h ne = lt-of-le-ne h ne
+
+module _ (n slots : ℕ) (ranks : List ℕ) (at used : ℕ) (t s : List ℕ) where
+  pub step-asks : (array : List ℕ) → length array ≡ slotWords → Ready n slots ranks at used t s
+      → Stepped n ranks (take (slotWords * at + filterSlot * n - slotWords * at) (drop (slotWords * at) s)) (take (filterSlot * n) array)
+  unfolding slotAt
+  step-asks array long ready =
+      let few = ready .filters in
+      let inside = ready .inside in
+      let within = ready .within in
+      let scratched = ready .scratched in
+      let ranked = ready .ranked in
+      let behind = length-drop (slotWords * at) s in
+      record {
+        few = few;
+        source = ap length (slot-part n at s) ∙ length-take-le (filterSlot * n) (drop (slotWords * at) s) (omega arith);
+        target = sym (front-long n array few long);
+        ranked = omega arith;
+      }
+
+  module _ (ready : Ready n slots ranks at used t s) (c : List ℕ) (whole : length c ≡ filterSlot * n) where
+    pub search-asks : Search n used s c
+    search-asks =
+        let within = ready .within in
+        let scratched = ready .scratched in
+        record { filters = ready .filters; slotted = omega arith; whole = whole }
+
+    pub store-asks : (used ≡ slots → ⊥) → Store n slots ranks used t s c
+    store-asks ne =
+        record {
+          filters = ready .filters;
+          ranked = ready .ranked;
+          below = slot-left slots used (ready .within) ne;
+          few = ready .few;
+          tabled = ready .tabled;
+          scratched = ready .scratched;
+          whole = whole;
+        }
+
+-- ---- the answers
+
+placeIn : Found → ℕ
+placeIn (F.At i) = i
+placeIn F.Nothing = 0
+
+stands : Found → Bool
+stands (F.At i) = true
+stands F.Nothing = false
+
+found-old : (b : Bool) (k i : ℕ) → F.At i ≡ cond b (F.At k) F.Nothing → (b ≡ true) × (k ≡ i)
+unfolding placeIn stands
+found-old true k i e = (refl, sym (ap placeIn e))
+found-old false k i e = absurd (false≢true (sym (ap stands e)))
+
+found-new : (b : Bool) (k : ℕ) → F.Nothing ≡ cond b (F.At k) F.Nothing → b ≡ false
+unfolding stands
+found-new true k e = absurd (false≢true (ap stands e))
+found-new false k e = refl
+
+module _ (n slots : ℕ) (ranks : List ℕ) (used : ℕ) (t s c c' : List ℕ) (is : c ≡ c') (r : Found)
+    (found : (ranks : List ℕ) → r ≡ foundIn n ranks (statesIn n used s) c) where
+  answer : r ≡ foundIn n ranks (statesIn n used s) c'
+  answer = found ranks ∙ ap (λ (w : List ℕ). foundIn n ranks (statesIn n used s) w) is
+
+  pub met-old : (i : ℕ) → r ≡ F.At i → Meeting n slots ranks used t s c' (M.Old i) t s
+  unfolding foundIn
+  met-old i e =
+      let old = found-old (meets (slotsIn n ranks) (statesIn n used s) c') (placeOf (slotsIn n ranks) (statesIn n used s) c') i (sym e ∙ answer) in
+      let below = place-below (slotsIn n ranks) (statesIn n used s) c' (old .0) in
+      let many = length-states n used s in
+      let place = old .1 in
+      (old .0, place, omega arith, refl, refl)
+
+  unmet : r ≡ F.Nothing → meets (slotsIn n ranks) (statesIn n used s) c' ≡ false
+  unfolding foundIn
+  unmet e = found-new (meets (slotsIn n ranks) (statesIn n used s) c') (placeOf (slotsIn n ranks) (statesIn n used s) c') (sym e ∙ answer)
+
+  pub met-full : r ≡ F.Nothing → used ≡ slots → Meeting n slots ranks used t s c' M.Full t s
+  met-full e h = (unmet e, omega arith, refl, refl)
+
+  pub met-new : (t' s' : List ℕ) → r ≡ F.Nothing → used < slots → Stored n slots ranks used t s c t' s' → Meeting n slots ranks used t s c' M.New t' s'
+  met-new t' s' e h st =
+      let new : Stored n slots ranks used t s c' t' s' = subst (λ (w : List ℕ). Stored n slots ranks used t s w t' s') is st in
+      (unmet e, h, new .memory, new .after, new .kept, new .beyond)

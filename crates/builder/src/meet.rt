@@ -1,0 +1,91 @@
+// The state that an outcome leads to is looked for among those met, and stored where it is new.
+use crate::Found;
+use crate::Met;
+use residue::Outcome;
+ghost use mathlib.Core.Path.{_≡_};
+ghost use mathlib.Core.List.{List};
+ghost use Prim.Native.Nat.{ℕ};
+ghost use Rattle.slots.specs.Slots.{stepWords, asksIn};
+ghost use Rattle.builder.specs.Memory.{slotAt, statesIn, foundIn};
+ghost use Rattle.builder.specs.Promises.{Ready, Held, Search, Store, Stored, Meeting};
+
+// Where the candidate stands among the states of the slots used, if it does.
+fn find(scratch: &[u32], n: usize, used: usize, candidate: &[u32]) -> Found
+    requires { ⌜ Search n used (now scratch) (now candidate) ⌝ }
+    ensures { λ r. ⌜ ((ranks : List ℕ) → r ≡ foundIn n ranks (statesIn n used (now (scratch .entry))) (now (candidate .entry))) ⌝ }
+{
+    let width = 32 * n;
+    let mut i: usize = 0;
+    while i < used {
+        let at = 1024 * i;
+        if slots::same(&scratch[at..at + width], candidate) {
+            return Found::At(i);
+        }
+        i += 1;
+    }
+    Found::Nothing
+}
+
+// Stores the candidate in the next slot, and its record behind those already placed.
+pub fn store(
+    ranks: &[u32],
+    n: usize,
+    slots: usize,
+    table: &mut [u32],
+    scratch: &mut [u32],
+    candidate: &[u32],
+    used: usize,
+)
+    requires { ⌜ Store n slots (now ranks) used (now table) (now scratch) (now candidate) ⌝ }
+    ensures { λ _. ⌜ Stored n slots (now (ranks .entry)) used (now (table .entry)) (now (scratch .entry)) (now (candidate .entry)) (now (table .exit)) (now (scratch .exit)) ⌝ }
+{
+    crate::words::copy_into(&mut scratch[1024 * used..], candidate);
+    slots::write_record(candidate, n, ranks, &mut table[9 * used..]);
+}
+
+// Meets the state that an outcome leads to from the state in slot `at`. It is made outside the slots: where all are used an old state is still recognised.
+pub fn meet(
+    ranks: &[u32],
+    n: usize,
+    slots: usize,
+    table: &mut [u32],
+    scratch: &mut [u32],
+    at: usize,
+    o: Outcome,
+    used: usize,
+) -> Met
+    requires { ⌜ Ready n slots (now ranks) at used (now table) (now scratch) ⌝ }
+    ensures { λ r. ⌜ Meeting n slots (now (ranks .entry)) used (now (table .entry)) (now (scratch .entry)) (stepWords n (now (ranks .entry)) o (slotAt n (now (scratch .entry)) at)) r (now (table .exit)) (now (scratch .exit)) ⌝ }
+{
+    let width = 32 * n;
+    let from = 1024 * at;
+    let mut words = [0u32; 1024];
+    slots::step_into(
+        &scratch[from..from + width],
+        &mut words[..width],
+        n,
+        ranks,
+        o,
+    );
+    let candidate = &words[..width];
+    match find(scratch, n, used, candidate) {
+        Found::At(number) => Met::Old(number),
+        Found::Nothing => {
+            if used == slots {
+                return Met::Full;
+            }
+            store(ranks, n, slots, table, scratch, candidate, used);
+            Met::New
+        }
+    }
+}
+
+// Whether the state in slot `at` has a question.
+pub fn asks(scratch: &[u32], n: usize, at: usize) -> bool
+    requires { ⌜ Held n at (now scratch) ⌝ }
+    ensures { λ r. ⌜ r ≡ asksIn n (slotAt n (now (scratch .entry)) at) ⌝ }
+{
+    let from = 1024 * at;
+    let question = slots::question_of(&scratch[from..from + 32 * n], n);
+    question.kind != 0
+}

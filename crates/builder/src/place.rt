@@ -1,0 +1,84 @@
+// States are met and placed: each state builds its ways and each way builds its state.
+use crate::meet::{asks, meet};
+use crate::{Met, Room};
+use residue::Outcome;
+
+ghost use mathlib.Core.Path.{_≡_};
+ghost use Prim.Native.Nat.{_+_, _*_};
+ghost use Rattle.automaton.specs.Placing.{placeState, placeWay, nextWord};
+ghost use Rattle.machine.specs.Box.{slotsIn};
+ghost use Rattle.builder.specs.Memory.{slotAt, memoryOf};
+ghost use Rattle.builder.specs.Promises.{Ready, Placing};
+
+// The word of a record that holds the next number at an outcome.
+fn next_word(o: Outcome) -> usize
+    ensures { λ r. ⌜ r ≡ nextWord o ⌝ }
+{
+    match o {
+        Outcome::Holds => 4,
+        Outcome::Fails => 5,
+        Outcome::Absent => 6,
+    }
+}
+
+// Builds the way of an outcome from the state in slot `at`: its state, and that state's ways if it is new, of which at most `left` questions follow one another.
+fn place_way(
+    ranks: &[u32],
+    n: usize,
+    slots: usize,
+    left: u32,
+    table: &mut [u32],
+    scratch: &mut [u32],
+    at: usize,
+    o: Outcome,
+    used: usize,
+) -> Room
+    requires { ⌜ Ready n slots (now ranks) at used (now table) (now scratch) ⌝ }
+    ensures { λ r. ⌜ Placing n slots (now (ranks .entry)) used (now (table .entry)) (now (scratch .entry)) r (now (table .exit)) (now (scratch .exit)) (placeWay (slotsIn n (now (ranks .entry))) slots (placeState (slotsIn n (now (ranks .entry))) slots left) o at (slotAt n (now (scratch .entry)) at) (memoryOf n (now (ranks .entry)) used (now (table .entry)) (now (scratch .entry)))) ⌝ }
+{
+    let word = 9 * at + next_word(o);
+    match meet(ranks, n, slots, table, scratch, at, o, used) {
+        Met::Old(number) => {
+            table[word] = number as u32;
+            Room::Used(used)
+        }
+        Met::Full => Room::Full,
+        Met::New => {
+            let Room::Used(now) = place_state(ranks, n, slots, left, table, scratch, used, used + 1) else {
+                return Room::Full;
+            };
+            table[word] = used as u32;
+            Room::Used(now)
+        }
+    }
+}
+
+// Builds the ways of the state in slot `at`, each to its end before the next; at most `left` questions follow one another.
+pub fn place_state(
+    ranks: &[u32],
+    n: usize,
+    slots: usize,
+    left: u32,
+    table: &mut [u32],
+    scratch: &mut [u32],
+    at: usize,
+    used: usize,
+) -> Room
+    requires { ⌜ Ready n slots (now ranks) at used (now table) (now scratch) ⌝ }
+    ensures { λ r. ⌜ Placing n slots (now (ranks .entry)) used (now (table .entry)) (now (scratch .entry)) r (now (table .exit)) (now (scratch .exit)) (placeState (slotsIn n (now (ranks .entry))) slots left at (slotAt n (now (scratch .entry)) at) (memoryOf n (now (ranks .entry)) used (now (table .entry)) (now (scratch .entry)))) ⌝ }
+{
+    if left == 0 {
+        return Room::Used(used);
+    }
+    if !asks(scratch, n, at) {
+        return Room::Used(used);
+    }
+    let less = left - 1;
+    let Room::Used(first) = place_way(ranks, n, slots, less, table, scratch, at, Outcome::Holds, used) else {
+        return Room::Full;
+    };
+    let Room::Used(second) = place_way(ranks, n, slots, less, table, scratch, at, Outcome::Fails, first) else {
+        return Room::Full;
+    };
+    place_way(ranks, n, slots, less, table, scratch, at, Outcome::Absent, second)
+}

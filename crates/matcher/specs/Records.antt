@@ -1,0 +1,24 @@
+-- What the nine words of one record say, apart from the table.
+--   endsAt w k a   the walk goes no further at such a record, with k questions asked of a: it is final, damaged, or the allowance is used
+--   endAt w k      what the walk then shows
+use Prim.Native.Nat.{ℕ}
+use mathlib.Core.Bool.{Bool, not, _&&_, _||_}
+use mathlib.Core.List.{List}
+use lib.Dec.{leb, ltb, eqb}
+use lib.ListN.{getD}
+use Rattle.fields.specs.Widths.{fieldCount}
+use Rattle.tables.specs.Tables.{kindAt, fieldAt, sureAt, outAt}
+use Rattle.matcher.specs.Walk.{Shown, done, stopped, arrive}
+
+abbrev pub wordIn : List ℕ → ℕ → ℕ
+wordIn w j = getD w j 0
+
+unfoldable pub endsAt : List ℕ → ℕ → ℕ → Bool
+endsAt w k a = eqb (wordIn w kindAt) 0 || ltb 4 (wordIn w kindAt) || ltb 13 (wordIn w fieldAt) || leb a k
+
+unfoldable pub endAt : List ℕ → ℕ → Shown
+endAt w k =
+    arrive (ltb 4 (wordIn w kindAt) || (not (eqb (wordIn w kindAt) 0) && leb fieldCount (wordIn w fieldAt)))
+    (eqb (wordIn w kindAt) 0)
+    (done (wordIn w sureAt) (wordIn w outAt) k)
+    (stopped (wordIn w sureAt) (wordIn w outAt) k)
