@@ -1,5 +1,4 @@
 -- How tight the promises are (document 01, the section of that name): two outcomes that one promise allows are equal.
---   Allowed l t s a t' s'   what the promise of a build allows: the answer a, the table t' and the scratch s' afterwards
 use Prim.Native.Nat.{ℕ}
 use native.Mathlib.Omega.{arith}
 use mathlib.Core.Path.{_≡_, sym, ap, ap₂, _∙_}
@@ -10,11 +9,6 @@ use Rattle.builder.specs.Outcome as O
 use Rattle.matcher.specs.declared.Answer.{Answer}
 use Rattle.matcher.specs.Walk as W
 use Rattle.matcher.specs.Laws as M
-
-pub record Allowed (l t s : List ℕ) (a : Built) (t' s' : List ℕ) : Type 0 where
-  pub answer : O.shown a ≡ O.outcome l t s .answer
-  pub table : t' ≡ O.outcome l t s .table
-  pub scratch : s' ≡ O.outcome l t s .scratch
 
 builds : {x y : O.Shown} → x ≡ y → x .built ≡ y .built
 builds e = ap (λ (s : O.Shown). s .built) e
@@ -33,7 +27,7 @@ built-injective (B.Refused r i) (B.States m) e = absurd (omega (arith, builds e)
 
 -- The answer, and each word of the lent memory afterwards.
 pub build-tight :
-    (l t s : List ℕ) (a b : Built) (ta tb sa sb : List ℕ) → Allowed l t s a ta sa → Allowed l t s b tb sb →
+    (l t s : List ℕ) (a b : Built) (ta tb sa sb : List ℕ) → O.Answered (O.outcome l t s) a ta sa → O.Answered (O.outcome l t s) b tb sb →
     (a ≡ b) × (ta ≡ tb) × (sa ≡ sb)
 build-tight l t s a b ta tb sa sb x y =
     (built-injective a b (x .answer ∙ sym (y .answer)), x .table ∙ sym (y .table), x .scratch ∙ sym (y .scratch))
