@@ -3,30 +3,27 @@
 --   slots-placed, list-placed   so the builder, placing words, places the list's states with their records, or is full where they are more than the slots
 use Prim.Native.Nat.{ℕ, _≤_}
 use native.Mathlib.Omega.{arith}
-use mathlib.Core.Path.{_≡_, sym, ap, ap₂, _∙_, subst}
+use mathlib.Core.Path.{_≡_, sym, ap₂, _∙_, subst}
 use mathlib.Core.Bool.{true, cond}
 use mathlib.Core.List.{List, [], _∷_, map}
 use lib.Dec.{leb}
 use lib.ListN.{length}
-use Rattle.residue.specs.declared.Outcome.{Outcome}
 use Rattle.lists.specs.Filters.{Filter, filtersOf, maxFilters, testsIn}
 use Rattle.lists.specs.Accepted.{wellFilters}
 use Rattle.lists.specs.Refusals.{listed}
 use Rattle.lists.specs.Laws.{accepted-count, accepted-well}
 use Rattle.lists.specs.declared.Listed.the-variants.{Accepted}
 use Rattle.lists.specs.Ranks.{rankSets}
-use Rattle.states.specs.States.{State, start, questionOf, step}
-use Rattle.states.specs.Laws.{step-ask}
-use Rattle.states.specs.Measure.{asks}
+use Rattle.states.specs.States.{start}
 use Rattle.slots.specs.Words.{written}
-use Rattle.slots.specs.Slots.{stepWords, startWords}
-use Rattle.slots.specs.Laws.{same-written, asks-written, step-written, question-written, sure-written, out-written, start-accepted}
+use Rattle.slots.specs.Slots.{startWords}
+use Rattle.slots.specs.Laws.{same-written, asks-written, next-written, question-written, sure-written, out-written, start-accepted}
 use Rattle.automaton.specs.Machines.{recordOf}
 use Rattle.automaton.specs.Placing.{full, room, placeAll}
 use Rattle.automaton.specs.Placed.{memory}
 use Rattle.automaton.specs.Carrying.{Carried, placed-carried}
 use Rattle.machine.specs.Box.{boxOf, statesOf, slotsIn}
-use Rattle.machine.specs.Laws.{Good, good-start, asked-question, box-lawful, enough}
+use Rattle.machine.specs.Laws.{Good, good-start, box-lawful, enough}
 
 -- With k questions at most to follow one another, from the words w on, the builder of n filters places the list's states, or is full.
 abbrev pub PlacesStates : List Filter → ℕ → ℕ → ℕ → List ℕ → Type 0
@@ -35,17 +32,12 @@ PlacesStates fs n slots k w =
     cond (leb (length (statesOf fs)) slots) (room (memory (map written (statesOf fs)) (map (recordOf (boxOf fs) (statesOf fs)) (statesOf fs)))) full
 
 module _ (fs : List Filter) (few : length fs ≤ maxFilters) where
-  step-carries : (o : Outcome) (s : State) → Good fs s → asks (questionOf s) ≡ true → stepWords (length fs) (rankSets fs) o (written s) ≡ written (step fs o s)
-  step-carries o s g e =
-      let a = asked-question s e in
-      step-written fs s (g .each) few (g .fits) o (a .0) (a .1) ∙ sym (ap written (step-ask fs o (a .0) s (a .1)))
-
   pub slots-carried : Carried (boxOf fs) (slotsIn (length fs) (rankSets fs)) (Good fs) written
   slots-carried =
       record {
         same-carried = λ a b g h. same-written a b (g .each ∙ sym (h .each)) (g .fits) (h .fits);
         asks-carried = λ s g. asks-written (length fs) s (g .each) (g .fits);
-        step-carried = step-carries;
+        step-carried = λ o s g e. next-written fs s (g .each) few (g .fits) o e;
         question-carried = λ s g. question-written (length fs) s (g .each) (g .fits);
         sets-carried = λ s g. ap₂ (λ (x y : ℕ). x ∷ y ∷ []) (sure-written fs s (g .each) few (g .fits)) (out-written fs s (g .each) few (g .fits));
       }
