@@ -1,0 +1,41 @@
+-- What the calls that place the start ask.
+-- Assumes nothing.
+use Prim.Native.Nat.{ℕ, _+_, _*_, _≤_, _<_}
+use mathlib.Core.Path.{_≡_, sym, subst}
+use mathlib.Core.List.{List}
+use native.Mathlib.Omega.{arith}
+use lib.ListN.{length}
+use Rattle.lists.specs.Filters.{maxFilters}
+use Rattle.lists.specs.Laws.{accepted-count}
+use Rattle.tables.specs.Tables.{recordWords}
+use Rattle.slots.specs.Words.{filterSlot, slotWords}
+use Rattle.slots.specs.Steps.{Starts}
+use Rattle.builder.specs.Promises.{Ready, Store}
+use Rattle.builder.specs.Building.{Startable}
+
+module _ (n slots k : ℕ) (ranks l t s : List ℕ) (able : Startable n slots k ranks l t s) where
+  pub start-few : n ≤ maxFilters
+  start-few = accepted-count l n k (able .listing) .2
+
+  pub start-asks : (d : List ℕ) → length d ≡ filterSlot * n → Starts n l d
+  start-asks d long = record { accepted = (k, able .listing); target = long }
+
+  pub store-asks : (c : List ℕ) → length c ≡ filterSlot * n → 0 < slots → Store n slots ranks 0 t s c
+  store-asks c long some =
+      record { filters = start-few
+             ; ranked = able .ranked
+             ; below = some
+             ; few = able .few
+             ; tabled = able .tabled
+             ; scratched = able .scratched
+             ; whole = long }
+
+  pub ready-start : (t' s' : List ℕ) → 0 < slots → length t' ≡ length t → length s' ≡ length s → Ready n slots ranks 0 1 t' s'
+  ready-start t' s' some lt ls =
+      record { filters = start-few
+             ; ranked = able .ranked
+             ; inside = omega arith
+             ; within = some
+             ; few = able .few
+             ; tabled = subst (λ (m : ℕ). recordWords * slots ≤ m) (sym lt) (able .tabled)
+             ; scratched = subst (λ (m : ℕ). slotWords * slots ≤ m) (sym ls) (able .scratched) }

@@ -1,0 +1,128 @@
+-- `builder::start::place_start` meets its contract: the start's words are made in front of an array and stored as state 0, and its ways are placed.
+-- Assumes nothing.
+use Prim.Native.Nat.{ℕ, _<_, _≤_}
+use mathlib.Core.Path.{_≡_, refl, sym, _∙_, subst}
+use mathlib.Core.List.{List}
+use native.Mathlib.Omega.{arith}
+use lib.ListN.{replicate, length}
+use denote.Ref.{now}
+use Rattle.lists.specs.Filters.{maxFilters}
+use Rattle.slots.specs.Slots.{startWords}
+use Rattle.builder.specs.Promises.{Stored}
+use Rattle.builder.specs.Starting as S
+use Rattle.builder.proofs.Meeting.{front-long, front-fits, front-is, front-whole}
+use Rattle.builder.proofs.Starting as A
+use borrow.Author.Needs.{needs}
+use Rattle.builder.proofs.start.place_start.Statement.{statement}
+use Rattle.builder.proofs.start.place_start.Tie as tie
+
+-- The array that the start is made in.
+abbrev words : List ℕ
+words = replicate 1024 0
+
+some-slot : (n : ℕ) → (n ≡ 0 → ⊥) → 0 < n
+some-slot n h = omega arith
+
+returns : tie.Need-returns
+returns c =
+    let s = c .before .before .before .before .before in
+    let a = s .args in
+    S.started-none (a .n) (a .slots) (now (a .ranks)) (a .tests) (startWords (a .n) (now (a .ranks)) (now (a .list))) (now (a .table)) (now (a .scratch)) (c .if1 .taken)
+
+mul-width : tie.Need-mul-width
+mul-width c =
+    let s = c .before .before .before .before .before in
+    let a = s .args in
+    omega (arith, A.start-few (a .n) (a .slots) (a .tests) (now (a .ranks)) (now (a .list)) (now (a .table)) (now (a .scratch)) (s .pre))
+
+array-borrow-prefix-words : tie.Need-array-borrow-prefix-words
+array-borrow-prefix-words c =
+    let s = c .before .before .before .before .before in
+    let a = s .args in
+    omega (arith, A.start-few (a .n) (a .slots) (a .tests) (now (a .ranks)) (now (a .list)) (now (a .table)) (now (a .scratch)) (s .pre))
+
+slice-aggregate-start-into : tie.Need-slice-aggregate-start-into
+slice-aggregate-start-into c =
+    let s = c .before .before .before .before .before .before in
+    let a = s .args in
+    front-long (a .n) words (A.start-few (a .n) (a .slots) (a .tests) (now (a .ranks)) (now (a .list)) (now (a .table)) (now (a .scratch)) (s .pre)) refl
+
+start-into-requires : tie.Need-start-into-requires
+start-into-requires c κs =
+    let s = c .before .before .before .before .before .before in
+    let a = s .args in
+    let few : a .n ≤ maxFilters = A.start-few (a .n) (a .slots) (a .tests) (now (a .ranks)) (now (a .list)) (now (a .table)) (now (a .scratch)) (s .pre) in
+    let ranked = s .pre .ranked in
+    (A.start-asks (a .n) (a .slots) (a .tests) (now (a .ranks)) (now (a .list)) (now (a .table)) (now (a .scratch)) (s .pre) _ (sym (front-long (a .n) words few refl)), omega arith)
+
+array-share-prefix-words : tie.Need-array-share-prefix-words
+array-share-prefix-words c =
+    let p = c .before .before .before in
+    let s = p .before .before .before .before .before .before .before in
+    let a = s .args in
+    let few : a .n ≤ maxFilters = A.start-few (a .n) (a .slots) (a .tests) (now (a .ranks)) (now (a .list)) (now (a .table)) (now (a .scratch)) (s .pre) in
+    front-fits (a .n) words few refl (p .start-into .last .1 .0) (p .start-into .kept .1 .0)
+
+slice-aggregate-store : tie.Need-slice-aggregate-store
+slice-aggregate-store c =
+    let p = c .before .before .before .before in
+    let s = p .before .before .before .before .before .before .before in
+    let a = s .args in
+    let few : a .n ≤ maxFilters = A.start-few (a .n) (a .slots) (a .tests) (now (a .ranks)) (now (a .list)) (now (a .table)) (now (a .scratch)) (s .pre) in
+    sym (front-whole (a .n) words few refl (p .start-into .last .1 .0) (p .start-into .kept .1 .0))
+
+store-requires : tie.Need-store-requires
+store-requires c κs =
+    let p = c .before .before .before .before in
+    let s = p .before .before .before .before .before .before .before in
+    let a = s .args in
+    let few : a .n ≤ maxFilters = A.start-few (a .n) (a .slots) (a .tests) (now (a .ranks)) (now (a .list)) (now (a .table)) (now (a .scratch)) (s .pre) in
+    A.store-asks (a .n) (a .slots) (a .tests) (now (a .ranks)) (now (a .list)) (now (a .table)) (now (a .scratch)) (s .pre) _ (front-whole (a .n) words few refl (p .start-into .last .1 .0) (p .start-into .kept .1 .0)) (some-slot (a .slots) (p .before .before .if1 .left))
+
+place-state-requires : tie.Need-place-state-requires
+place-state-requires c κs =
+    let v = c .before .before .before .before .before .before in
+    let p = v .before .before .before .before .before in
+    let s = p .before .before .before .before .before .before .before in
+    let a = s .args in
+    let few : a .n ≤ maxFilters = A.start-few (a .n) (a .slots) (a .tests) (now (a .ranks)) (now (a .list)) (now (a .table)) (now (a .scratch)) (s .pre) in
+    A.ready-start (a .n) (a .slots) (a .tests) (now (a .ranks)) (now (a .list)) (now (a .table)) (now (a .scratch)) (s .pre) _ _ (some-slot (a .slots) (p .before .before .if1 .left)) (v .store .kept .1 .1 .1 .0) (v .store .kept .1 .1 .1 .1 .0)
+
+same-length : tie.Need-same-length
+same-length c = search needs
+
+same-length-2 : tie.Need-same-length-2
+same-length-2 c = search needs
+
+returns-2 : tie.Need-returns-2
+returns-2 c =
+    let x = c .before .before .before .before in
+    let v = x .before .before .before .before .before .before .before in
+    let p = v .before .before .before .before .before in
+    let s = p .before .before .before .before .before .before .before in
+    let a = s .args in
+    let few : a .n ≤ maxFilters = A.start-few (a .n) (a .slots) (a .tests) (now (a .ranks)) (now (a .list)) (now (a .table)) (now (a .scratch)) (s .pre) in
+    let made = front-is (a .n) words few refl (p .start-into .last .1 .0) (p .start-into .kept .1 .0) ∙ p .start-into .ensures in
+    let t₁ = v .store .last .1 .1 .1 .0 in
+    let s₁ = v .store .last .1 .1 .1 .1 .0 in
+    S.started (a .n) (a .slots) (now (a .ranks)) (a .tests) (startWords (a .n) (now (a .ranks)) (now (a .list))) (now (a .table)) (now (a .scratch))
+    (some-slot (a .slots) (p .before .before .if1 .left)) t₁ s₁
+    (subst (λ (w : List ℕ). Stored (a .n) (a .slots) (now (a .ranks)) 0 (now (a .table)) (now (a .scratch)) w t₁ s₁) made (v .store .ensures))
+    (x .place-state .result) (x .place-state .last .1 .1 .1 .1 .0) (x .place-state .last .1 .1 .1 .1 .1 .0) (x .place-state .ensures)
+
+pub place-start-spec : {M : Type 1} → statement M
+place-start-spec =
+    tie.close
+    (tie.spec
+    returns
+    mul-width
+    array-borrow-prefix-words
+    slice-aggregate-start-into
+    start-into-requires
+    array-share-prefix-words
+    slice-aggregate-store
+    store-requires
+    place-state-requires
+    same-length
+    same-length-2
+    returns-2)
