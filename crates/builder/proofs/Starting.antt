@@ -22,20 +22,24 @@ module _ (n slots k : ℕ) (ranks l t s : List ℕ) (able : Startable n slots k 
 
   pub store-asks : (c : List ℕ) → length c ≡ filterSlot * n → 0 < slots → Store n slots ranks 0 t s c
   store-asks c long some =
-      record { filters = start-few
-             ; ranked = able .ranked
-             ; below = some
-             ; few = able .few
-             ; tabled = able .tabled
-             ; scratched = able .scratched
-             ; whole = long }
+      record {
+        filters = start-few;
+        ranked = able .ranked;
+        below = some;
+        few = able .few;
+        tabled = able .tabled;
+        scratched = able .scratched;
+        whole = long;
+      }
 
   pub ready-start : (t' s' : List ℕ) → 0 < slots → length t' ≡ length t → length s' ≡ length s → Ready n slots ranks 0 1 t' s'
   ready-start t' s' some lt ls =
-      record { filters = start-few
-             ; ranked = able .ranked
-             ; inside = omega arith
-             ; within = some
-             ; few = able .few
-             ; tabled = subst (λ (m : ℕ). recordWords * slots ≤ m) (sym lt) (able .tabled)
-             ; scratched = subst (λ (m : ℕ). slotWords * slots ≤ m) (sym ls) (able .scratched) }
+      record {
+        filters = start-few;
+        ranked = able .ranked;
+        inside = omega arith;
+        within = some;
+        few = able .few;
+        tabled = subst (λ (m : ℕ). recordWords * slots ≤ m) (sym lt) (able .tabled);
+        scratched = subst (λ (m : ℕ). slotWords * slots ≤ m) (sym ls) (able .scratched);
+      }

@@ -9,9 +9,10 @@ use lib.Dec.{leb, ltb}
 use lib.ListN.{length, take, drop, replicate, length-map, length-take, take-append-drop}
 use lib.Seq.{take-add, length-take-le}
 use borrow.Author.Tests.{leb-true, leb-false, lt-ltb, le-ltb}
-use Rattle.lists.specs.Filters.{Filter, maxFilters}
+use Rattle.lists.specs.Filters.{Filter, maxFilters, filtersOf}
 use Rattle.lists.specs.Refusals.{listed}
-use Rattle.lists.specs.declared.Listed.the-variants.{Accepted}
+use Rattle.lists.specs.declared.Listed.{Listed}
+use Rattle.lists.specs.declared.Listed.the-variants.{Accepted, Refused}
 use Rattle.sets.specs.Sets.{tally}
 use Rattle.tables.specs.Tables.{recordWords, maxSlots, slotsOf}
 use Rattle.slots.specs.Words.{slotWords, written}
@@ -19,7 +20,7 @@ use Rattle.automaton.specs.Machines.{Machine, recordOf, recordsOf, flat}
 use Rattle.automaton.specs.Placing.{Memory, Placed, full, room}
 use Rattle.automaton.specs.Placed.{memory}
 use Rattle.machine.specs.Box.{boxOf, slotsIn, statesOf, recordsIn}
-use Rattle.builder.specs.Outcome.{Shown, shown, Left, cleared, tableWords, scratchWords, noRoom, placed, accepted, Answered}
+use Rattle.builder.specs.Outcome.{Shown, shown, Left, cleared, tableWords, scratchWords, refused, noRoom, placed, accepted, outcomeBy, outcome, Answered}
 use Rattle.builder.specs.Memory.{slotAt, recordAt, statesIn, recordsAt, memoryOf, outOf}
 use Rattle.builder.specs.Placed.{length-states}
 use Rattle.builder.specs.Promises.{Grown, AfterKept}
@@ -127,12 +128,14 @@ module _ (n : ℕ) (ranks : List ℕ) (fs : List Filter) (t s t' s' : List ℕ) 
   unfolding accepted placed
   built-states u r e came₀ hs ht =
       let came : Started n (slotsOf t) ranks t s (R.Used u) t' s' (whole n ranks fs (slotsOf t)) =
-              subst (λ (x : Room). Started n (slotsOf t) ranks t s x t' s' (whole n ranks fs (slotsOf t))) e came₀ in
+      subst (λ (x : Room). Started n (slotsOf t) ranks t s x t' s' (whole n ranks fs (slotsOf t))) e came₀ in
       let same : accepted fs t s ≡ placed fs t s = rw (enough hs, le-ltb (slotsOf t) (length (statesOf fs)) (fits u came)) in
       subst (λ (l : Left). Answered l (B.States u) t' (cleared (slotWords * slotsOf t) s')) (sym same)
-      (record { answer = ap (λ (k : ℕ). record { refusal = 0; number = k }) (states-are u came)
-              ; table = table-is u came ht
-              ; scratch = cleared-scratch (R.Used u) (whole n ranks fs (slotsOf t)) came })
+      (record {
+        answer = ap (λ (k : ℕ). record { refusal = 0; number = k }) (states-are u came);
+        table = table-is u came ht;
+        scratch = cleared-scratch (R.Used u) (whole n ranks fs (slotsOf t)) came;
+      })
 
   cleared-table : Started n (slotsOf t) ranks t s R.Full t' s' (whole n ranks fs (slotsOf t)) → cleared (recordWords * slotsOf t) t' ≡ cleared (tableWords t) t
   unfolding cleared tableWords
@@ -150,9 +153,28 @@ module _ (n : ℕ) (ranks : List ℕ) (fs : List Filter) (t s t' s' : List ℕ) 
   unfolding accepted noRoom
   built-full r e came₀ hs =
       let came : Started n (slotsOf t) ranks t s R.Full t' s' (whole n ranks fs (slotsOf t)) =
-              subst (λ (x : Room). Started n (slotsOf t) ranks t s x t' s' (whole n ranks fs (slotsOf t))) e came₀ in
+      subst (λ (x : Room). Started n (slotsOf t) ranks t s x t' s' (whole n ranks fs (slotsOf t))) e came₀ in
       let same : accepted fs t s ≡ noRoom t s = rw (enough hs, lt-ltb (slotsOf t) (length (statesOf fs)) (fuller (leb (length (statesOf fs)) (slotsOf t)) refl came)) in
       subst (λ (l : Left). Answered l (B.Refused 11 0) (cleared (recordWords * slotsOf t) t') (cleared (slotWords * slotsOf t) s')) (sym same)
-      (record { answer = refl
-              ; table = cleared-table came
-              ; scratch = cleared-scratch R.Full (whole n ranks fs (slotsOf t)) came })
+      (record {
+        answer = refl;
+        table = cleared-table came;
+        scratch = cleared-scratch R.Full (whole n ranks fs (slotsOf t)) came;
+      })
+
+-- The outcome goes by what reading the list comes to.
+pub answered-refused : (l t s : List ℕ) (r i : ℕ) → listed l ≡ Refused r i → Answered (outcome l t s) (B.Refused r i) t s
+unfolding outcome outcomeBy refused
+answered-refused l t s r i e =
+    subst (λ (x : Listed). Answered (outcomeBy x l t s) (B.Refused r i) t s) (sym e) (record { answer = refl; table = refl; scratch = refl })
+
+pub answered-accepted : (l t s : List ℕ) (n k : ℕ) → listed l ≡ Accepted n k → (b : Built) (t' s' : List ℕ) → Answered (accepted (filtersOf l) t s) b t' s'
+    → Answered (outcome l t s) b t' s'
+unfolding outcome outcomeBy
+answered-accepted l t s n k e b t' s' a = subst (λ (x : Listed). Answered (outcomeBy x l t s) b t' s') (sym e) a
+
+pub answered-short : (l t s : List ℕ) → length s < slotWords * slotsOf t → Answered (accepted (filtersOf l) t s) (B.Refused 10 0) t s
+unfolding accepted refused scratchWords
+answered-short l t s h =
+    let same : accepted (filtersOf l) t s ≡ refused 10 0 t s = rw (lt-ltb (length s) (slotWords * slotsOf t) h) in
+    subst (λ (x : Left). Answered x (B.Refused 10 0) t s) (sym same) (record { answer = refl; table = refl; scratch = refl })

@@ -5,3 +5,4 @@ pub mod MemoryLaws
 pub mod Placed
 pub mod Building
 pub mod Starting
+pub mod Finished

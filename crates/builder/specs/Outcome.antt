@@ -57,9 +57,11 @@ noRoom t s =
 -- Success leaves the records, and every table word after them as before.
 unfoldable pub placed : List Filter → List ℕ → List ℕ → Left
 placed fs t s =
-    record { answer = record { built = 1; refusal = 0; number = length (statesOf fs) }
-           ; table = recordsIn fs ++ drop (length (recordsIn fs)) t
-           ; scratch = cleared (scratchWords t) s }
+    record {
+      answer = record { built = 1; refusal = 0; number = length (statesOf fs) };
+      table = recordsIn fs ++ drop (length (recordsIn fs)) t;
+      scratch = cleared (scratchWords t) s;
+    }
 
 -- 10, then 11, else the states.
 unfoldable pub accepted : List Filter → List ℕ → List ℕ → Left

@@ -77,15 +77,17 @@ module _ (n slots : ℕ) (ranks : List ℕ) (left at used : ℕ) (o : Outcome) (
   linked-old i e p =
       let at-used = ready .inside in
       let fits = ready .within in
-      record { comes =
-                 sym (way-old (slotsIn n ranks) slots (placeState (slotsIn n ranks) slots left) o at (slotAt n s at) stepped (memoryOf n ranks used t s) refl e
-                 ∙ ap (λ (k : ℕ). room (linked (slotsIn n ranks) o at k (memoryOf n ranks used t s))) p
-                 ∙ ap (λ (m : Memory (slotsIn n ranks)). room m) (memory-linked n ranks used at i o t s at-used))
-             ; grows = (omega arith, fits)
-             ; after = drop-linked t at used o i at-used
-             ; behind = drop-linked t at slots o i (omega arith)
-             ; kept = refl
-             ; beyond = refl }
+      record {
+        comes =
+            sym (way-old (slotsIn n ranks) slots (placeState (slotsIn n ranks) slots left) o at (slotAt n s at) stepped (memoryOf n ranks used t s) refl e
+            ∙ ap (λ (k : ℕ). room (linked (slotsIn n ranks) o at k (memoryOf n ranks used t s))) p
+            ∙ ap (λ (m : Memory (slotsIn n ranks)). room m) (memory-linked n ranks used at i o t s at-used));
+        grows = (omega arith, fits);
+        after = drop-linked t at used o i at-used;
+        behind = drop-linked t at slots o i (omega arith);
+        kept = refl;
+        beyond = refl;
+      }
 
   pub old-below : (i : ℕ) (m : Met) (t' s' : List ℕ) → m ≡ M.Old i → Meeting n slots ranks used t s stepped m t' s' → i < used
   old-below i m t' s' em meeting =
@@ -105,12 +107,14 @@ module _ (n slots : ℕ) (ranks : List ℕ) (left at used : ℕ) (o : Outcome) (
   unfolding memoryOf outOf
   slotless e h =
       let long = length-states n used s in
-      record { comes = sym (way-slotless (slotsIn n ranks) slots (placeState (slotsIn n ranks) slots left) o at (slotAt n s at) stepped (memoryOf n ranks used t s) refl e (omega arith))
-             ; grows = tt
-             ; after = tt
-             ; behind = refl
-             ; kept = refl
-             ; beyond = refl }
+      record {
+        comes = sym (way-slotless (slotsIn n ranks) slots (placeState (slotsIn n ranks) slots left) o at (slotAt n s at) stepped (memoryOf n ranks used t s) refl e (omega arith));
+        grows = tt;
+        after = tt;
+        behind = refl;
+        kept = refl;
+        beyond = refl;
+      }
 
   pub placed-slotless : (m : Met) (t' s' : List ℕ) → m ≡ M.Full → Meeting n slots ranks used t s stepped m t' s' → Placing n slots ranks used t s R.Full t' s' theWay
   placed-slotless m t' s' em meeting =
@@ -130,13 +134,15 @@ module _ (n slots : ℕ) (ranks : List ℕ) (left at used : ℕ) (o : Outcome) (
     pub ready-new : length t₁ ≡ length t → length s₁ ≡ length s → Ready n slots ranks used (used + 1) t₁ s₁
     ready-new lt ls =
         let below = meeting .1 in
-        record { filters = ready .filters
-               ; ranked = ready .ranked
-               ; inside = omega arith
-               ; within = omega arith
-               ; few = ready .few
-               ; tabled = subst (λ (k : ℕ). recordWords * slots ≤ k) (sym lt) (ready .tabled)
-               ; scratched = subst (λ (k : ℕ). slotWords * slots ≤ k) (sym ls) (ready .scratched) }
+        record {
+          filters = ready .filters;
+          ranked = ready .ranked;
+          inside = omega arith;
+          within = omega arith;
+          few = ready .few;
+          tabled = subst (λ (k : ℕ). recordWords * slots ≤ k) (sym lt) (ready .tabled);
+          scratched = subst (λ (k : ℕ). slotWords * slots ≤ k) (sym ls) (ready .scratched);
+        }
 
     abbrev pub theState : Placed (slotsIn n ranks)
     theState = placeState (slotsIn n ranks) slots left used stepped (stored (slotsIn n ranks) stepped (memoryOf n ranks used t s))
@@ -148,7 +154,7 @@ module _ (n slots : ℕ) (ranks : List ℕ) (left at used : ℕ) (o : Outcome) (
         way-new (slotsIn n ranks) slots (placeState (slotsIn n ranks) slots left) o at (slotAt n s at) stepped (memoryOf n ranks used t s) refl (meeting .0)
         (subst (λ (k : ℕ). k < slots) (sym long) (meeting .1))
         ∙ ap (λ (k : ℕ). andThen (slotsIn n ranks) (placeState (slotsIn n ranks) slots left k stepped (stored (slotsIn n ranks) stepped (memoryOf n ranks used t s)))
-          (λ m'. room (linked (slotsIn n ranks) o at k m'))) long
+        (λ m'. room (linked (slotsIn n ranks) o at k m'))) long
 
     slot-new : slotAt n s₁ used ≡ stepped
     unfolding memoryOf statesIn stored
@@ -181,12 +187,14 @@ module _ (n slots : ℕ) (ranks : List ℕ) (left at used : ℕ) (o : Outcome) (
         let b : Building R.Full t₂ s₂ = subst (λ (x : Room). Building x t₂ s₂) e b₀ in
         let room-left = meeting .1 in
         let fewer : used + 1 ≤ slots = omega arith in
-        record { comes = sym (way-is ∙ ap (λ (p : Placed (slotsIn n ranks)). andThen (slotsIn n ranks) p (λ m'. room (linked (slotsIn n ranks) o at used m'))) (sym (b .comes ∙ state-is)))
-               ; grows = tt
-               ; after = tt
-               ; behind = b .behind ∙ drop-new slots fewer
-               ; kept = kept-new R.Full t₂ s₂ b
-               ; beyond = b .beyond ∙ meeting .5 }
+        record {
+          comes = sym (way-is ∙ ap (λ (p : Placed (slotsIn n ranks)). andThen (slotsIn n ranks) p (λ m'. room (linked (slotsIn n ranks) o at used m'))) (sym (b .comes ∙ state-is)));
+          grows = tt;
+          after = tt;
+          behind = b .behind ∙ drop-new slots fewer;
+          kept = kept-new R.Full t₂ s₂ b;
+          beyond = b .beyond ∙ meeting .5;
+        }
 
     linked-new : (u : ℕ) (t₂ s₂ : List ℕ) → Building (R.Used u) t₂ s₂
         → Placing n slots ranks used t s (R.Used u) (set t₂ (recordWords * at + nextWord o) used) s₂ theWay
@@ -197,15 +205,17 @@ module _ (n slots : ℕ) (ranks : List ℕ) (left at used : ℕ) (o : Outcome) (
         let fits = b .grows .1 in
         let room-left = meeting .1 in
         let fewer : used + 1 ≤ slots = omega arith in
-        record { comes =
-                   sym (way-is
-                   ∙ ap (λ (p : Placed (slotsIn n ranks)). andThen (slotsIn n ranks) p (λ m'. room (linked (slotsIn n ranks) o at used m'))) (sym (b .comes ∙ state-is))
-                   ∙ ap (λ (m : Memory (slotsIn n ranks)). room m) (memory-linked n ranks u at used o t₂ s₂ (omega arith)))
-               ; grows = (omega arith, fits)
-               ; after = drop-linked t₂ at u o used (omega arith) ∙ b .after ∙ drop-new u more
-               ; behind = drop-linked t₂ at slots o used (omega arith) ∙ b .behind ∙ drop-new slots fewer
-               ; kept = kept-new (R.Used u) t₂ s₂ b
-               ; beyond = b .beyond ∙ meeting .5 }
+        record {
+          comes =
+              sym (way-is
+              ∙ ap (λ (p : Placed (slotsIn n ranks)). andThen (slotsIn n ranks) p (λ m'. room (linked (slotsIn n ranks) o at used m'))) (sym (b .comes ∙ state-is))
+              ∙ ap (λ (m : Memory (slotsIn n ranks)). room m) (memory-linked n ranks u at used o t₂ s₂ (omega arith)));
+          grows = (omega arith, fits);
+          after = drop-linked t₂ at u o used (omega arith) ∙ b .after ∙ drop-new u more;
+          behind = drop-linked t₂ at slots o used (omega arith) ∙ b .behind ∙ drop-new slots fewer;
+          kept = kept-new (R.Used u) t₂ s₂ b;
+          beyond = b .beyond ∙ meeting .5;
+        }
 
     pub placed-new : (w u : ℕ) (r : Room) (t₂ s₂ : List ℕ) → w ≡ nextWord o → r ≡ R.Used u → Building r t₂ s₂
         → Placing n slots ranks used t s (R.Used u) (set t₂ (recordWords * at + w) used) s₂ theWay
@@ -247,13 +257,15 @@ module _ (n slots : ℕ) (ranks : List ℕ) (left at used : ℕ) (t s : List ℕ
   ready-on : (u : ℕ) (t' s' : List ℕ) → used ≤ u → u ≤ slots → length t' ≡ length t → length s' ≡ length s → Ready n slots ranks at u t' s'
   ready-on u t' s' more fits lt ls =
       let inside = ready .inside in
-      record { filters = ready .filters
-             ; ranked = ready .ranked
-             ; inside = omega arith
-             ; within = fits
-             ; few = ready .few
-             ; tabled = subst (λ (k : ℕ). recordWords * slots ≤ k) (sym lt) (ready .tabled)
-             ; scratched = subst (λ (k : ℕ). slotWords * slots ≤ k) (sym ls) (ready .scratched) }
+      record {
+        filters = ready .filters;
+        ranked = ready .ranked;
+        inside = omega arith;
+        within = fits;
+        few = ready .few;
+        tabled = subst (λ (k : ℕ). recordWords * slots ≤ k) (sym lt) (ready .tabled);
+        scratched = subst (λ (k : ℕ). slotWords * slots ≤ k) (sym ls) (ready .scratched);
+      }
 
   stays : outOf n ranks (R.Used used) t s ≡ ways left → Placing n slots ranks used t s (R.Used used) t s (ways left)
   stays e = record { comes = e; grows = (omega arith, ready .within); after = refl; behind = refl; kept = refl; beyond = refl }
@@ -280,12 +292,14 @@ module _ (n slots : ℕ) (ranks : List ℕ) (left at used : ℕ) (t s : List ℕ
     unfolding outOf
     first-full r t₁ s₁ e a₀ =
         let a : Way O.Holds used t s R.Full t₁ s₁ = subst (λ (x : Room). Way O.Holds used t s x t₁ s₁) e a₀ in
-        record { comes = sym (state-full (slotsIn n ranks) slots (left - 1) at (slotAt n s at) (memoryOf n ranks used t s) asked (sym (a .comes))) ∙ ap ways whole
-               ; grows = tt
-               ; after = tt
-               ; behind = a .behind
-               ; kept = a .kept
-               ; beyond = a .beyond }
+        record {
+          comes = sym (state-full (slotsIn n ranks) slots (left - 1) at (slotAt n s at) (memoryOf n ranks used t s) asked (sym (a .comes))) ∙ ap ways whole;
+          grows = tt;
+          after = tt;
+          behind = a .behind;
+          kept = a .kept;
+          beyond = a .beyond;
+        }
 
     module _ (u₁ : ℕ) (r₁ : Room) (t₁ s₁ : List ℕ) (e₁ : r₁ ≡ R.Used u₁) (a₀ : Way O.Holds used t s r₁ t₁ s₁) where
       a : Way O.Holds used t s (R.Used u₁) t₁ s₁
@@ -312,12 +326,14 @@ module _ (n slots : ℕ) (ranks : List ℕ) (left at used : ℕ) (t s : List ℕ
       unfolding outOf
       second-full r t₂ s₂ e b₀ =
           let b : Way O.Fails u₁ t₁ s₁ R.Full t₂ s₂ = subst (λ (x : Room). Way O.Fails u₁ t₁ s₁ x t₂ s₂) e b₀ in
-          record { comes = sym (state-room-full (slotsIn n ranks) slots (left - 1) at (slotAt n s at) (memoryOf n ranks used t s) (memoryOf n ranks u₁ t₁ s₁) asked (sym (a .comes)) (sym (came O.Fails R.Full t₂ s₂ b))) ∙ ap ways whole
-                 ; grows = tt
-                 ; after = tt
-                 ; behind = b .behind ∙ a .behind
-                 ; kept = kept-by s₂ (b .kept)
-                 ; beyond = b .beyond ∙ a .beyond }
+          record {
+            comes = sym (state-room-full (slotsIn n ranks) slots (left - 1) at (slotAt n s at) (memoryOf n ranks used t s) (memoryOf n ranks u₁ t₁ s₁) asked (sym (a .comes)) (sym (came O.Fails R.Full t₂ s₂ b))) ∙ ap ways whole;
+            grows = tt;
+            after = tt;
+            behind = b .behind ∙ a .behind;
+            kept = kept-by s₂ (b .kept);
+            beyond = b .beyond ∙ a .beyond;
+          }
 
       module _ (u₂ : ℕ) (r₂ : Room) (t₂ s₂ : List ℕ) (e₂ : r₂ ≡ R.Used u₂) (b₀ : Way O.Fails u₁ t₁ s₁ r₂ t₂ s₂) where
         b : Way O.Fails u₁ t₁ s₁ (R.Used u₂) t₂ s₂
@@ -360,13 +376,15 @@ module _ (n slots : ℕ) (ranks : List ℕ) (left at used : ℕ) (t s : List ℕ
         pub third : (r : Room) (t₃ s₃ : List ℕ) → Way O.Absent u₂ t₂ s₂ r t₃ s₃ → Placing n slots ranks used t s r t₃ s₃ (ways left)
         unfolding outOf
         third r t₃ s₃ c =
-            record { comes =
-                       sym (state-rooms (slotsIn n ranks) slots (left - 1) at (slotAt n s at) (memoryOf n ranks used t s) (memoryOf n ranks u₁ t₁ s₁) (memoryOf n ranks u₂ t₂ s₂)
-                       (outOf n ranks r t₃ s₃) asked (sym (a .comes)) (sym (came O.Fails (R.Used u₂) t₂ s₂ b))
-                       (sym (c .comes ∙ ap (λ (w : List ℕ). placeWay (slotsIn n ranks) slots (placeState (slotsIn n ranks) slots (left - 1)) O.Absent at w (memoryOf n ranks u₂ t₂ s₂)) slot-second)))
-                       ∙ ap ways whole
-                   ; grows = grown r (c .grows)
-                   ; after = after-all r t₃ (c .grows) (c .after)
-                   ; behind = c .behind ∙ b .behind ∙ a .behind
-                   ; kept = kept-both s₃ (c .kept)
-                   ; beyond = c .beyond ∙ b .beyond ∙ a .beyond }
+            record {
+              comes =
+                  sym (state-rooms (slotsIn n ranks) slots (left - 1) at (slotAt n s at) (memoryOf n ranks used t s) (memoryOf n ranks u₁ t₁ s₁) (memoryOf n ranks u₂ t₂ s₂)
+                  (outOf n ranks r t₃ s₃) asked (sym (a .comes)) (sym (came O.Fails (R.Used u₂) t₂ s₂ b))
+                  (sym (c .comes ∙ ap (λ (w : List ℕ). placeWay (slotsIn n ranks) slots (placeState (slotsIn n ranks) slots (left - 1)) O.Absent at w (memoryOf n ranks u₂ t₂ s₂)) slot-second)))
+                  ∙ ap ways whole;
+              grows = grown r (c .grows);
+              after = after-all r t₃ (c .grows) (c .after);
+              behind = c .behind ∙ b .behind ∙ a .behind;
+              kept = kept-both s₃ (c .kept);
+              beyond = c .beyond ∙ b .beyond ∙ a .beyond;
+            }

@@ -67,8 +67,10 @@ module _ (n slots : ℕ) (ranks : List ℕ) (left : ℕ) (c t s : List ℕ) wher
         → Placing n slots ranks 1 t₁ s₁ r t' s' (placeState (slotsIn n ranks) slots left 0 (slotAt n s₁ 0) (memoryOf n ranks 1 t₁ s₁))
         → Started n slots ranks t s r t' s' theAll
     started r t' s' p =
-        record { comes = p .comes ∙ state-is
-               ; grows = grown r (p .grows)
-               ; after = after-all r t' (p .grows) (p .after)
-               ; behind = p .behind ∙ later (recordWords * 1) (recordWords * slots) t₁ t (omega arith) (kept .after)
-               ; beyond = p .beyond ∙ kept .beyond }
+        record {
+          comes = p .comes ∙ state-is;
+          grows = grown r (p .grows);
+          after = after-all r t' (p .grows) (p .after);
+          behind = p .behind ∙ later (recordWords * 1) (recordWords * slots) t₁ t (omega arith) (kept .after);
+          beyond = p .beyond ∙ kept .beyond;
+        }

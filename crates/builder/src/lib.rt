@@ -1,6 +1,5 @@
 // A list is compiled into a lent table (document 01, "States and the table" and "Refusal numbers").
 use lists::Listed;
-
 ghost use mathlib.Core.Path.{_≡_};
 ghost use Rattle.lists.specs.Filters.{filtersOf};
 ghost use Rattle.lists.specs.Refusals.{listed};
@@ -38,7 +37,13 @@ pub enum Met {
 }
 
 // Compiles an accepted list of n filters and so many tests.
-fn build_accepted(list: &[u32], n: usize, tests: u32, table: &mut [u32], scratch: &mut [u32]) -> Built
+fn build_accepted(
+    list: &[u32],
+    n: usize,
+    tests: u32,
+    table: &mut [u32],
+    scratch: &mut [u32],
+) -> Built
     requires { ⌜ listed (now list) ≡ Accepted n tests ⌝ }
     ensures { λ r. ⌜ Answered (accepted (filtersOf (now (list .entry))) (now (table .entry)) (now (scratch .entry))) r (now (table .exit)) (now (scratch .exit)) ⌝ }
 {
@@ -65,6 +70,12 @@ pub fn build(list: &[u32], table: &mut [u32], scratch: &mut [u32]) -> Built
 {
     match lists::check(list) {
         Listed::Refused(number, filter) => Built::Refused(number, filter),
-        Listed::Accepted(filters, tests) => build_accepted(list, filters as usize, tests, table, scratch),
+        Listed::Accepted(filters, tests) => build_accepted(
+            list,
+            filters as usize,
+            tests,
+            table,
+            scratch,
+        ),
     }
 }

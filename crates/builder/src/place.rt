@@ -1,8 +1,9 @@
 // States are met and placed: each state builds its ways and each way builds its state.
-use crate::meet::{asks, meet};
-use crate::{Met, Room};
+use crate::Met;
+use crate::Room;
+use crate::meet::asks;
+use crate::meet::meet;
 use residue::Outcome;
-
 ghost use mathlib.Core.Path.{_≡_};
 ghost use Prim.Native.Nat.{_+_, _*_};
 ghost use Rattle.automaton.specs.Placing.{placeState, placeWay, nextWord};
@@ -44,7 +45,8 @@ fn place_way(
         }
         Met::Full => Room::Full,
         Met::New => {
-            let Room::Used(now) = place_state(ranks, n, slots, left, table, scratch, used, used + 1) else {
+            let Room::Used(now) = place_state(ranks, n, slots, left, table, scratch, used, used + 1)
+            else {
                 return Room::Full;
             };
             table[word] = used as u32;
@@ -74,11 +76,41 @@ pub fn place_state(
         return Room::Used(used);
     }
     let less = left - 1;
-    let Room::Used(first) = place_way(ranks, n, slots, less, table, scratch, at, Outcome::Holds, used) else {
+    let Room::Used(first) = place_way(
+        ranks,
+        n,
+        slots,
+        less,
+        table,
+        scratch,
+        at,
+        Outcome::Holds,
+        used,
+    ) else {
         return Room::Full;
     };
-    let Room::Used(second) = place_way(ranks, n, slots, less, table, scratch, at, Outcome::Fails, first) else {
+    let Room::Used(second) = place_way(
+        ranks,
+        n,
+        slots,
+        less,
+        table,
+        scratch,
+        at,
+        Outcome::Fails,
+        first,
+    ) else {
         return Room::Full;
     };
-    place_way(ranks, n, slots, less, table, scratch, at, Outcome::Absent, second)
+    place_way(
+        ranks,
+        n,
+        slots,
+        less,
+        table,
+        scratch,
+        at,
+        Outcome::Absent,
+        second,
+    )
 }

@@ -2,7 +2,6 @@
 use crate::Room;
 use crate::meet::store;
 use crate::place::place_state;
-
 ghost use mathlib.Core.Path.{_≡_};
 ghost use Rattle.automaton.specs.Placing.{placeAll};
 ghost use Rattle.machine.specs.Box.{slotsIn};

@@ -1,10 +1,11 @@
+-- `builder::build` meets its contract: the outcome goes by what reading the list comes to.
+-- Assumes nothing.
+use mathlib.Core.Path.{_≡_, refl, sym, _∙_}
+use denote.Ref.{now}
+use Rattle.builder.specs.Building as P
 use borrow.Author.Needs.{needs}
 use Rattle.builder.proofs.build.Statement.{statement}
 use Rattle.builder.proofs.build.Tie as tie
-use Rattle.builder.proofs.build.Reads as reads
-use Rattle.builder.proofs.build.Lts as lts
-use Rattle.builder.proofs.build_accepted.Reads as build-accepted-reads
-use Rattle.lists.proofs.check.Reads as check-reads
 
 check-requires : tie.Need-check-requires
 check-requires c κs = search needs
@@ -19,10 +20,16 @@ cast-build-accepted : tie.Need-cast-build-accepted
 cast-build-accepted c = search needs
 
 build-accepted-requires : tie.Need-build-accepted-requires
-build-accepted-requires c κs = search needs
+build-accepted-requires c κs =
+    let f = c .before .before .before .filters .given in
+    sym (c .before .before .before .before .before .check .ensures) ∙ f .1
 
 returns : tie.Need-returns
-returns c = search needs
+returns c =
+    let k = c .before .before .before in
+    let a = k .before .before .before .before .args in
+    let f = c .before .number .given in
+    P.answered-refused (now (a .list)) (now (a .table)) (now (a .scratch)) (f .0 .0) (f .0 .1 .0) (sym (k .check .ensures) ∙ f .1)
 
 same-length : tie.Need-same-length
 same-length c = search needs
@@ -31,7 +38,12 @@ same-length-2 : tie.Need-same-length-2
 same-length-2 c = search needs
 
 returns-2 : tie.Need-returns-2
-returns-2 c = search needs
+returns-2 c =
+    let b = c .before .before .before .before in
+    let k = b .before .before .before .before .before .before in
+    let a = k .before .before .before .before .args in
+    let f = b .before .before .before .before .filters .given in
+    P.answered-accepted (now (a .list)) (now (a .table)) (now (a .scratch)) (f .0 .0) (f .0 .1 .0) (sym (k .check .ensures) ∙ f .1) (b .build-accepted .result) (b .build-accepted .last .1 .1 .1 .0) (b .build-accepted .last .1 .1 .1 .1 .0) (b .build-accepted .ensures)
 
 pub build-spec : {M : Type 1} → statement M
 build-spec =

@@ -1,12 +1,20 @@
+-- `builder::build_accepted` meets its contract: each end of placing is a law of specs/Finished.
+-- Assumes nothing.
+use Prim.Native.Nat.{ℕ, _<_, _≤_, _*_}
+use mathlib.Core.Path.{_≡_, refl, sym, _∙_, ap, subst}
+use mathlib.Core.List.{List, []}
+use native.Mathlib.Omega.{arith}
+use lib.ListN.{length}
+use denote.Ref.{now}
+use Rattle.lists.specs.Filters.{filtersOf}
+use Rattle.lists.specs.Laws.{length-rankSets}
+use Rattle.tables.specs.Tables.{recordWords, slotsOf}
+use Rattle.builder.specs.Outcome.{Answered, accepted, cleared}
+use Rattle.builder.specs.Finished as F
+use Rattle.builder.specs.declared.Built.the-variants as B
 use borrow.Author.Needs.{needs}
 use Rattle.builder.proofs.build_accepted.Statement.{statement}
 use Rattle.builder.proofs.build_accepted.Tie as tie
-use Rattle.builder.proofs.build_accepted.Reads as reads
-use Rattle.builder.proofs.build_accepted.Lts as lts
-use Rattle.builder.proofs.start.place_start.Reads as place-start-reads
-use Rattle.builder.proofs.words.clear.Reads as clear-reads
-use Rattle.lists.proofs.rank_sets.Reads as rank-sets-reads
-use Rattle.tables.proofs.slots_of.Reads as slots-of-reads
 
 slots-of-requires : tie.Need-slots-of-requires
 slots-of-requires c κs = search needs
@@ -15,16 +23,28 @@ mul-if1 : tie.Need-mul-if1
 mul-if1 c = search needs
 
 returns : tie.Need-returns
-returns c = search needs
+unfolding slotsOf
+returns c =
+    let q = c .before in
+    let s = q .before .before .before .before in
+    let a = s .args in
+    F.short (now (a .list)) (a .n) (a .tests) [] (now (a .table)) (now (a .scratch)) (q .slots-of .result) (s .pre) (q .slots-of .ensures) (c .if1 .taken)
 
 rank-sets-requires : tie.Need-rank-sets-requires
 rank-sets-requires c κs = search needs
 
 slice-aggregate-place-start : tie.Need-slice-aggregate-place-start
-slice-aggregate-place-start c = search needs
+slice-aggregate-place-start c =
+    sym (ap length (c .before .rank-sets .ensures) ∙ length-rankSets (filtersOf (now (c .before .before .before .before .before .before .before .before .args .list))))
 
 place-start-requires : tie.Need-place-start-requires
-place-start-requires c κs = search needs
+unfolding slotsOf
+place-start-requires c κs =
+    let k = c .before .before .before in
+    let q = k .before .before .before in
+    let s = q .before .before .before .before in
+    let a = s .args in
+    F.startable (now (a .list)) (a .n) (a .tests) (k .rank-sets .last .1 .0) (now (a .table)) (now (a .scratch)) (q .slots-of .result) (s .pre) (q .slots-of .ensures) (k .rank-sets .ensures) (k .before .before .if1 .left)
 
 mul-clear : tie.Need-mul-clear
 mul-clear c = search needs
@@ -36,7 +56,15 @@ enum-known-room : tie.Need-enum-known-room
 enum-known-room c = search needs
 
 cast-t24 : tie.Need-cast-t24
-cast-t24 c = search needs
+unfolding slotsOf
+cast-t24 c =
+    let v = c .before .before .before .before .before .before .before .before .before .before .before in
+    let k = v .before .before .before .before in
+    let q = k .before .before .before in
+    let s = q .before .before .before .before in
+    let a = s .args in
+    let u = c .before .room .given in
+    omega (arith, F.few-states (now (a .list)) (a .n) (a .tests) (k .rank-sets .last .1 .0) (now (a .table)) (now (a .scratch)) (q .slots-of .result) (s .pre) (q .slots-of .ensures) (k .rank-sets .ensures) (k .before .before .if1 .left) (v .place-start .result) (v .place-start .last .1 .1 .1 .1 .1 .0) (v .place-start .last .1 .1 .1 .1 .1 .1 .0) (v .place-start .ensures) (u .0 .0) (u .1))
 
 enum-told : tie.Need-enum-told
 enum-told c = search needs
@@ -54,7 +82,17 @@ same-length-2 : tie.Need-same-length-2
 same-length-2 c = search needs
 
 returns-2 : tie.Need-returns-2
-returns-2 c = search needs
+unfolding slotsOf
+returns-2 c =
+    let w = c .before .before .before .before .before in
+    let v = w .before .before .before .before .before .before in
+    let k = v .before .before .before .before in
+    let q = k .before .before .before in
+    let s = q .before .before .before .before in
+    let a = s .args in
+    let u = c .before .room .given in
+    subst (λ (x : List ℕ). Answered (accepted (filtersOf (now (a .list))) (now (a .table)) (now (a .scratch))) (B.States (u .0 .0)) (v .place-start .last .1 .1 .1 .1 .1 .0) x) (sym (w .clear .ensures))
+    (F.finished (now (a .list)) (a .n) (a .tests) (k .rank-sets .last .1 .0) (now (a .table)) (now (a .scratch)) (q .slots-of .result) (s .pre) (q .slots-of .ensures) (k .rank-sets .ensures) (k .before .before .if1 .left) (v .place-start .result) (v .place-start .last .1 .1 .1 .1 .1 .0) (v .place-start .last .1 .1 .1 .1 .1 .1 .0) (v .place-start .ensures) (u .0 .0) (u .1) (v .place-start .kept .1 .1 .1 .1 .1 .0))
 
 same-length-3 : tie.Need-same-length-3
 same-length-3 c = search needs
@@ -63,7 +101,19 @@ same-length-4 : tie.Need-same-length-4
 same-length-4 c = search needs
 
 returns-3 : tie.Need-returns-3
-returns-3 c = search needs
+unfolding slotsOf
+returns-3 c =
+    let x = c .before .before in
+    let e = x .before .before in
+    let w = e .before .before .before .before in
+    let v = w .before .before .before .before .before .before in
+    let k = v .before .before .before .before in
+    let q = k .before .before .before in
+    let s = q .before .before .before .before in
+    let a = s .args in
+    subst (λ (y : List ℕ). Answered (accepted (filtersOf (now (a .list))) (now (a .table)) (now (a .scratch))) (B.Refused 11 0) y (w .clear .last .0)) (sym (x .clear2 .ensures))
+    (subst (λ (y : List ℕ). Answered (accepted (filtersOf (now (a .list))) (now (a .table)) (now (a .scratch))) (B.Refused 11 0) (cleared (recordWords * q .slots-of .result) (v .place-start .last .1 .1 .1 .1 .1 .0)) y) (sym (w .clear .ensures))
+    (F.finished-full (now (a .list)) (a .n) (a .tests) (k .rank-sets .last .1 .0) (now (a .table)) (now (a .scratch)) (q .slots-of .result) (s .pre) (q .slots-of .ensures) (k .rank-sets .ensures) (k .before .before .if1 .left) (v .place-start .result) (v .place-start .last .1 .1 .1 .1 .1 .0) (v .place-start .last .1 .1 .1 .1 .1 .1 .0) (v .place-start .ensures) (e .enum-told .given .1)))
 
 pub build-accepted-spec : {M : Type 1} → statement M
 build-accepted-spec =

@@ -3,21 +3,20 @@
 use Rattle.slots.proofs.Sameness.{same-more, same-differ, same-end}
 use Rattle.slots.specs.Slots.{sameWords}
 use lib.ListN.{length, drop}
-use native.Mathlib.Omega.{arith}
 use mathlib.Core.Path.{_≡_, refl, sym, _∙_}
-use Prim.Native.Nat.{_≤_, _-_}
+use Prim.Native.Nat.{_-_}
 use borrow.Author.Needs.{needs}
 use Rattle.slots.proofs.same.Statement.{statement}
 use Rattle.slots.proofs.same.Tie as tie
 
 abbrev Inv-loop : tie.InvT-loop
-Inv-loop a b at₀ at = (at ≤ length a) × (sameWords a b ≡ sameWords (drop at a) (drop at b))
+Inv-loop a b at₀ at = sameWords a b ≡ sameWords (drop at a) (drop at b)
 
 abbrev μ-loop : tie.MeasureT-loop
 μ-loop a b at₀ at = length a - at
 
 loop-holds : tie.Need-loop-holds Inv-loop μ-loop
-loop-holds c = (omega arith, refl)
+loop-holds c = refl
 
 mul-if1 : tie.Need-mul-if1 Inv-loop μ-loop
 mul-if1 c = search needs
@@ -35,7 +34,7 @@ returns : tie.Need-returns Inv-loop μ-loop
 returns c =
     let l = c .before .before .before .before in
     let s = l .before in
-    sym (l .loop .inv .1 ∙ same-differ (s .args .a .now) (s .args .b .now) (l .loop .at) (s .pre) (c .before .before .before .loop-test .taken) (c .if1 .taken))
+    sym (l .loop .inv ∙ same-differ (s .args .a .now) (s .args .b .now) (l .loop .at) (s .pre) (c .before .before .before .loop-test .taken) (c .if1 .taken))
 
 add-at : tie.Need-add-at Inv-loop μ-loop
 add-at c = search needs
@@ -47,13 +46,13 @@ loop-again : tie.Need-loop-again Inv-loop μ-loop
 loop-again c =
     let l = c .before .before .before .before in
     let s = l .before in
-    (omega arith, l .loop .inv .1 ∙ same-more (s .args .a .now) (s .args .b .now) (l .loop .at) (s .pre) (c .before .before .before .loop-test .taken) (c .if1 .left))
+    l .loop .inv ∙ same-more (s .args .a .now) (s .args .b .now) (l .loop .at) (s .pre) (c .before .before .before .loop-test .taken) (c .if1 .left)
 
 returns-2 : tie.Need-returns-2 Inv-loop μ-loop
 returns-2 c =
     let l = c .before in
     let s = l .before in
-    sym (l .loop .inv .1 ∙ same-end (s .args .a .now) (s .args .b .now) (l .loop .at) (s .pre) (c .loop-test .left))
+    sym (l .loop .inv ∙ same-end (s .args .a .now) (s .args .b .now) (l .loop .at) (s .pre) (c .loop-test .left))
 
 pub same-spec : {M : Type 1} → statement M
 same-spec =

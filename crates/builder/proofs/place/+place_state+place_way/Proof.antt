@@ -164,9 +164,10 @@ place-state-place-way-requires-2 t c κs =
     let a = start .args in
     let more = w .before .before .before .before .before .before .if1 .left in
     let asked = sym (w .before .before .before .before .asks .ensures) ∙ not-false (w .before .before .before .before .asks .result) (w .before .before .before .if2 .left) in
-    let f = c .before .before .before .first .given in
-    (subst (λ (j : ℕ). 2 * (a .left - 1) + 1 < j) (start .pre .0) (P.way-less (a .left) more)
-    , P.ready-second (a .n) (a .slots) (now (a .ranks)) (a .left) (a .at) (a .used) (now (a .table)) (now (a .scratch)) (start .pre .1) more asked (f .0 .0) (w .place-way .result) (w .place-way .last .1 .1 .1 .1 .0) (w .place-way .last .1 .1 .1 .1 .1 .0) (f .1) (w .place-way .ensures) (w .place-way .kept .1 .1 .1 .1 .0) (w .place-way .kept .1 .1 .1 .1 .1 .0))
+    let f = c .before .before .before .first .given in (
+      subst (λ (j : ℕ). 2 * (a .left - 1) + 1 < j) (start .pre .0) (P.way-less (a .left) more),
+      P.ready-second (a .n) (a .slots) (now (a .ranks)) (a .left) (a .at) (a .used) (now (a .table)) (now (a .scratch)) (start .pre .1) more asked (f .0 .0) (w .place-way .result) (w .place-way .last .1 .1 .1 .1 .0) (w .place-way .last .1 .1 .1 .1 .1 .0) (f .1) (w .place-way .ensures) (w .place-way .kept .1 .1 .1 .1 .0) (w .place-way .kept .1 .1 .1 .1 .1 .0),
+    )
 
 place-state-enum-known-second : (t : ℕ) → place-state-lts.Need-enum-known-second (
   asks-reads.Asked,
@@ -231,11 +232,12 @@ place-state-place-way-requires-3 t c κs =
     let more = w .before .before .before .before .before .before .if1 .left in
     let asked = sym (w .before .before .before .before .asks .ensures) ∙ not-false (w .before .before .before .before .asks .result) (w .before .before .before .if2 .left) in
     let f = v .before .before .before .before .first .given in
-    let g = c .before .before .before .second .given in
-    (subst (λ (j : ℕ). 2 * (a .left - 1) + 1 < j) (start .pre .0) (P.way-less (a .left) more)
-    , P.ready-third (a .n) (a .slots) (now (a .ranks)) (a .left) (a .at) (a .used) (now (a .table)) (now (a .scratch)) (start .pre .1) more asked (f .0 .0) (w .place-way .result) (w .place-way .last .1 .1 .1 .1 .0) (w .place-way .last .1 .1 .1 .1 .1 .0) (f .1) (w .place-way .ensures)
-    (g .0 .0) (v .place-way2 .result) (v .place-way2 .last .1 .1 .1 .1 .0) (v .place-way2 .last .1 .1 .1 .1 .1 .0) (g .1) (v .place-way2 .ensures)
-    (v .place-way2 .kept .1 .1 .1 .1 .0 ∙ w .place-way .kept .1 .1 .1 .1 .0) (v .place-way2 .kept .1 .1 .1 .1 .1 .0 ∙ w .place-way .kept .1 .1 .1 .1 .1 .0))
+    let g = c .before .before .before .second .given in (
+      subst (λ (j : ℕ). 2 * (a .left - 1) + 1 < j) (start .pre .0) (P.way-less (a .left) more),
+      P.ready-third (a .n) (a .slots) (now (a .ranks)) (a .left) (a .at) (a .used) (now (a .table)) (now (a .scratch)) (start .pre .1) more asked (f .0 .0) (w .place-way .result) (w .place-way .last .1 .1 .1 .1 .0) (w .place-way .last .1 .1 .1 .1 .1 .0) (f .1) (w .place-way .ensures)
+          (g .0 .0) (v .place-way2 .result) (v .place-way2 .last .1 .1 .1 .1 .0) (v .place-way2 .last .1 .1 .1 .1 .1 .0) (g .1) (v .place-way2 .ensures)
+          (v .place-way2 .kept .1 .1 .1 .1 .0 ∙ w .place-way .kept .1 .1 .1 .1 .0) (v .place-way2 .kept .1 .1 .1 .1 .1 .0 ∙ w .place-way .kept .1 .1 .1 .1 .1 .0),
+    )
 
 place-state-same-length-6 : (t : ℕ) → place-state-lts.Need-same-length-6 (
   asks-reads.Asked,
@@ -416,9 +418,10 @@ place-way-place-state-requires t c κs =
     let start = w .before .before .before .before .before .before .before in
     let a = start .args in
     let nw = w .before .before .before .next-word in
-    let e = c .before .before .enum-told2 in
-    (subst (λ (j : ℕ). 2 * a .left < j) (start .pre .0) (P.state-less (a .left))
-    , P.ready-new (a .n) (a .slots) (now (a .ranks)) (a .left) (a .at) (a .used) (a .o) (now (a .table)) (now (a .scratch)) (start .pre .1) (w .meet .result) (w .meet .last .1 .1 .1 .0) (w .meet .last .1 .1 .1 .1 .0) (e .given .1) (w .meet .ensures) (w .meet .kept .1 .1 .1 .0) (w .meet .kept .1 .1 .1 .1 .0))
+    let e = c .before .before .enum-told2 in (
+      subst (λ (j : ℕ). 2 * a .left < j) (start .pre .0) (P.state-less (a .left)),
+      P.ready-new (a .n) (a .slots) (now (a .ranks)) (a .left) (a .at) (a .used) (a .o) (now (a .table)) (now (a .scratch)) (start .pre .1) (w .meet .result) (w .meet .last .1 .1 .1 .0) (w .meet .last .1 .1 .1 .1 .0) (e .given .1) (w .meet .ensures) (w .meet .kept .1 .1 .1 .0) (w .meet .kept .1 .1 .1 .1 .0),
+    )
 
 place-way-enum-known-now : (t : ℕ) → place-way-lts.Need-enum-known-now (
   next-word-reads.Asked,

@@ -35,10 +35,11 @@ loop-less c = search needs
 loop-again : tie.Need-loop-again Inv-loop μ-loop
 loop-again c =
     let l = c .before .loop in
-    let room : l .i < length (now (c .before .before .args .words)) = search needs in
-    (search needs
-    , ap (λ (ws : List ℕ). set ws (l .i) 0) (l .inv .1) ∙ fill-more (l .i) 0 (now (c .before .before .args .words)) room
-    , length-set (l .words) (l .i) 0 ∙ l .inv .2)
+    let room : l .i < length (now (c .before .before .args .words)) = search needs in (
+      search needs,
+      ap (λ (ws : List ℕ). set ws (l .i) 0) (l .inv .1) ∙ fill-more (l .i) 0 (now (c .before .before .args .words)) room,
+      length-set (l .words) (l .i) 0 ∙ l .inv .2,
+    )
 
 same-length : tie.Need-same-length Inv-loop μ-loop
 same-length c = search needs

@@ -44,13 +44,14 @@ loop-again c =
     let l = c .before .before .loop in
     let d = now (c .before .before .before .args .words) in
     let s = now (c .before .before .before .args .source) in
-    let room : 0 + l .i < length d = search needs in
-    (search needs
-    , ap (λ (ws : List ℕ). set ws (l .i) (getD s (l .i) 0)) (l .inv .1)
-      ∙ ap (λ (k : ℕ). set (paste d 0 s (l .i)) k (getD s (l .i) 0)) (sym (zero-add (l .i)))
-      ∙ paste-suc d 0 s (l .i) 0 room (c .before .loop-test .taken)
-      ∙ ap (λ (k : ℕ). paste d 0 s k) (sym (add-one (l .i)))
-    , length-set (l .words) (l .i) (getD s (l .i) 0) ∙ l .inv .2)
+    let room : 0 + l .i < length d = search needs in (
+      search needs,
+      ap (λ (ws : List ℕ). set ws (l .i) (getD s (l .i) 0)) (l .inv .1)
+          ∙ ap (λ (k : ℕ). set (paste d 0 s (l .i)) k (getD s (l .i) 0)) (sym (zero-add (l .i)))
+          ∙ paste-suc d 0 s (l .i) 0 room (c .before .loop-test .taken)
+          ∙ ap (λ (k : ℕ). paste d 0 s k) (sym (add-one (l .i))),
+      length-set (l .words) (l .i) (getD s (l .i) 0) ∙ l .inv .2,
+    )
 
 same-length : tie.Need-same-length Inv-loop μ-loop
 same-length c = search needs
