@@ -1,5 +1,4 @@
 // The customer's demands, stated and proved from the promises of the public calls (specs/Demands.antt), and both calls as one.
-ghost use mathlib.Core.Path.{_≡_};
 ghost use Rattle.demands.specs.Whole.{Whole};
 use builder::Built;
 use matcher::Answer;
