@@ -132,7 +132,7 @@ module _ (n : ℕ) (ranks : List ℕ) (fs : List Filter) (t s t' s' : List ℕ) 
       let same : accepted fs t s ≡ placed fs t s = rw (enough hs, le-ltb (slotsOf t) (length (statesOf fs)) (fits u came)) in
       subst (λ (l : Left). Answered l (B.States u) t' (cleared (slotWords * slotsOf t) s')) (sym same)
       (record {
-        answer = ap (λ (k : ℕ). record { refusal = 0; number = k }) (states-are u came);
+        answer = ap (λ (k : ℕ). record { built = 1; refusal = 0; number = k }) (states-are u came);
         table = table-is u came ht;
         scratch = cleared-scratch (R.Used u) (whole n ranks fs (slotsOf t)) came;
       })

@@ -1,5 +1,5 @@
 -- Document 01, "Refusal numbers" and "States and the table", last paragraph: what building answers and leaves.
---   Shown           the refusal's number (0 where built), and the number of states or the filter's number
+--   Shown           whether it was built (1 built, 0 refused), the refusal's number or 0, the number of states or the filter's number
 --   shown b         document 01's numbers for each case of the enum Built
 --   Left            the answer, every word of the table and every word of the scratch afterwards
 --   cleared n ws    the first n words made 0
@@ -22,12 +22,13 @@ use Rattle.builder.specs.declared.Built.{Built}
 use Rattle.builder.specs.declared.Built.the-variants as B
 
 pub record Shown : Type 0 where
+  pub built : ℕ
   pub refusal : ℕ
   pub number : ℕ
 
 abbrev pub shown : Built → Shown
-shown (B.States n) = record { refusal = 0; number = n }
-shown (B.Refused r i) = record { refusal = r; number = i }
+shown (B.States n) = record { built = 1; refusal = 0; number = n }
+shown (B.Refused r i) = record { built = 0; refusal = r; number = i }
 
 pub record Left : Type 0 where
   pub answer : Shown
@@ -46,18 +47,18 @@ scratchWords t = slotWords * slotsOf t
 
 -- Refusals 1 to 10 change no word.
 unfoldable pub refused : ℕ → ℕ → List ℕ → List ℕ → Left
-refused r i t s = record { answer = record { refusal = r; number = i }; table = t; scratch = s }
+refused r i t s = record { answer = record { built = 0; refusal = r; number = i }; table = t; scratch = s }
 
 -- Refusal 11 leaves zeros in all slots; the words behind them stay.
 unfoldable pub noRoom : List ℕ → List ℕ → Left
 noRoom t s =
-    record { answer = record { refusal = 11; number = 0 }; table = cleared (tableWords t) t; scratch = cleared (scratchWords t) s }
+    record { answer = record { built = 0; refusal = 11; number = 0 }; table = cleared (tableWords t) t; scratch = cleared (scratchWords t) s }
 
 -- Success leaves the records, and every table word after them as before.
 unfoldable pub placed : List Filter → List ℕ → List ℕ → Left
 placed fs t s =
     record {
-      answer = record { refusal = 0; number = length (statesOf fs) };
+      answer = record { built = 1; refusal = 0; number = length (statesOf fs) };
       table = recordsIn fs ++ drop (length (recordsIn fs)) t;
       scratch = cleared (scratchWords t) s;
     }

@@ -1,7 +1,5 @@
 -- How tight the promises are (document 01, the section of that name): two outcomes that one promise allows are equal.
---   Allowed l t s a t' s'   what the promise of a build allows: the answer a, the table t' and the scratch s' afterwards
---   Numbered a              a refusal has a number that is not 0, which tells it from a number of states
-use Prim.Native.Nat.{ℕ, _<_}
+use Prim.Native.Nat.{ℕ}
 use native.Mathlib.Omega.{arith}
 use mathlib.Core.Path.{_≡_, sym, ap, ap₂, _∙_}
 use mathlib.Core.List.{List}
@@ -12,20 +10,8 @@ use Rattle.matcher.specs.declared.Answer.{Answer}
 use Rattle.matcher.specs.Walk as W
 use Rattle.matcher.specs.Laws as M
 
-pub record Allowed (l t s : List ℕ) (a : Built) (t' s' : List ℕ) : Type 0 where
-  pub answer : O.shown a ≡ O.outcome l t s .answer
-  pub table : t' ≡ O.outcome l t s .table
-  pub scratch : s' ≡ O.outcome l t s .scratch
-
-abbrev pub Numbered : Built → Type 0
-Numbered (B.States n) = Unit {0}
-Numbered (B.Refused r i) = 0 < r
-
--- Every number that is answered, and each word of the lent memory afterwards.
-pub build-tight :
-    (l t s : List ℕ) (a b : Built) (ta tb sa sb : List ℕ) → Allowed l t s a ta sa → Allowed l t s b tb sb →
-    (O.shown a ≡ O.shown b) × (ta ≡ tb) × (sa ≡ sb)
-build-tight l t s a b ta tb sa sb x y = (x .answer ∙ sym (y .answer), x .table ∙ sym (y .table), x .scratch ∙ sym (y .scratch))
+builds : {x y : O.Shown} → x ≡ y → x .built ≡ y .built
+builds e = ap (λ (s : O.Shown). s .built) e
 
 refuses : {x y : O.Shown} → x ≡ y → x .refusal ≡ y .refusal
 refuses e = ap (λ (s : O.Shown). s .refusal) e
@@ -33,11 +19,18 @@ refuses e = ap (λ (s : O.Shown). s .refusal) e
 numbers : {x y : O.Shown} → x ≡ y → x .number ≡ y .number
 numbers e = ap (λ (s : O.Shown). s .number) e
 
-pub built-injective : (a b : Built) → Numbered a → Numbered b → O.shown a ≡ O.shown b → a ≡ b
-built-injective (B.States n) (B.States m) x y e = ap B.States (numbers e)
-built-injective (B.Refused r i) (B.Refused q j) x y e = ap₂ B.Refused (refuses e) (numbers e)
-built-injective (B.States n) (B.Refused q j) x y e = absurd (omega (arith, refuses e))
-built-injective (B.Refused r i) (B.States m) x y e = absurd (omega (arith, refuses e))
+pub built-injective : (a b : Built) → O.shown a ≡ O.shown b → a ≡ b
+built-injective (B.States n) (B.States m) e = ap B.States (numbers e)
+built-injective (B.Refused r i) (B.Refused q j) e = ap₂ B.Refused (refuses e) (numbers e)
+built-injective (B.States n) (B.Refused q j) e = absurd (omega (arith, builds e))
+built-injective (B.Refused r i) (B.States m) e = absurd (omega (arith, builds e))
+
+-- The answer, and each word of the lent memory afterwards.
+pub build-tight :
+    (l t s : List ℕ) (a b : Built) (ta tb sa sb : List ℕ) → O.Answered (O.outcome l t s) a ta sa → O.Answered (O.outcome l t s) b tb sb →
+    (a ≡ b) × (ta ≡ tb) × (sa ≡ sb)
+build-tight l t s a b ta tb sa sb x y =
+    (built-injective a b (x .answer ∙ sym (y .answer)), x .table ∙ sym (y .table), x .scratch ∙ sym (y .scratch))
 
 -- Classifying writes nothing, and its answer is determined.
 pub classify-tight : (f : List ℕ) (p : ℕ) (t : List ℕ) (m a : ℕ) (x y : Answer) → W.shown x ≡ W.walk f p t m a → W.shown y ≡ W.walk f p t m a → x ≡ y

@@ -16,6 +16,7 @@ use Rattle.builder.specs.Outcome as O
 use Rattle.matcher.specs.declared.Answer.{Answer}
 use Rattle.matcher.specs.declared.Answer.the-variants as A
 use Rattle.matcher.specs.Walk as W
+use Rattle.demands.specs.Builds.{build-success}
 use Rattle.demands.specs.Settled.{Legal, walked, all-done, all-matches, sure-so, out-so}
 
 pub record Whole (l t s f : List ℕ) (p a : ℕ) (x : Answer) : Type 0 where
@@ -35,16 +36,24 @@ module _ (l t s f : List ℕ) (p a : ℕ) where
   abbrev answer : O.Shown
   answer = O.outcome l t s .answer
 
-  -- A refusal's number is not 0.
-  pub whole-refused : (r i : ℕ) → 0 < r → O.shown (B.Refused r i) ≡ answer → Whole l t s f p a (A.Refused r)
-  whole-refused r i some e =
+  -- No list that was built is refused.
+  unbuilt-some : (r i : ℕ) → O.shown (B.Refused r i) ≡ answer → answer .refusal ≡ 0 → ⊥
+  unfolding O.placed
+  unbuilt-some r i e z =
+      let b = ap (λ (x : O.Shown). x .built) e in
+      let c = ap (λ (x : O.Left). x .answer .built) (build-success l t s z .left) in
+      omega arith
+
+  pub whole-refused : (r i : ℕ) → O.shown (B.Refused r i) ≡ answer → Whole l t s f p a (A.Refused r)
+  whole-refused r i e =
       let same : r ≡ answer .refusal = ap (λ (x : O.Shown). x .refusal) e in
+      let some = unbuilt-some r i e in
       record {
         unbuilt = λ _. ap W.refused same;
-        walks = λ z. absurd (omega arith);
-        settled = λ z _ _. absurd (omega arith);
-        sound-sure = λ z _ _ _. absurd (omega arith);
-        sound-out = λ z _ _ _. absurd (omega arith);
+        walks = λ z. absurd (some z);
+        settled = λ z _ _. absurd (some z);
+        sound-sure = λ z _ _ _. absurd (some z);
+        sound-out = λ z _ _ _. absurd (some z);
       }
 
   -- A walk over what was built; the frame's bytes and the port are bytes.
