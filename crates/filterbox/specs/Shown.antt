@@ -1,6 +1,6 @@
 -- The public calls' answers as the fields of C structs.
 --   classified a   the five numbers of a walk's answer
---   compiled b     the two numbers of building's answer
+--   Numbers        the two numbers of building's answer
 --   Compiled       an answer and the words afterwards are those of an outcome of building
 use mathlib.Core.Path.{_≡_}
 use Prim.Native.Nat.{ℕ}
@@ -14,10 +14,12 @@ abbrev pub classified : FilterboxAnswer → W.Shown
 classified a =
     record { ended = a .ended; refusal = a .refusal; sure = a .sure; out = a .out; asked = a .asked }
 
-abbrev pub compiled : FilterboxBuilt → B.Shown
-compiled b = record { refusal = b .refusal; number = b .number }
-
+-- The refusal's number, and the number of states or the filter's number.
 pub record Compiled (l : B.Left) (b : FilterboxBuilt) (t s : List ℕ) : Type 0 where
-  pub answer : compiled b ≡ l .answer
+  pub refusal : b .refusal ≡ l .answer .refusal
+  pub number : b .number ≡ l .answer .number
   pub table : t ≡ l .table
   pub scratch : s ≡ l .scratch
+
+abbrev pub Numbers : FilterboxBuilt → B.Shown → Type 0
+Numbers b x = (b .refusal ≡ x .refusal) × (b .number ≡ x .number)

@@ -5,7 +5,7 @@ ghost use Rattle.builder.specs.Outcome.{outcome};
 ghost use Rattle.builder.specs.Outcome.{shown as B·shown};
 ghost use Rattle.matcher.specs.Walk.{walk};
 ghost use Rattle.matcher.specs.Walk.{shown as W·shown};
-ghost use Rattle.filterbox.specs.Shown.{compiled, Compiled, classified};
+ghost use Rattle.filterbox.specs.Shown.{Numbers, Compiled, classified};
 use builder::Built;
 use matcher::Answer;
 
@@ -17,7 +17,7 @@ pub struct FilterboxBuilt {
 }
 
 fn built_of(built: Built) -> FilterboxBuilt
-    ensures { λ r. ⌜ compiled r ≡ B·shown built ⌝ }
+    ensures { λ r. ⌜ Numbers r (B·shown built) ⌝ }
 {
     match built {
         Built::States(states) => FilterboxBuilt {

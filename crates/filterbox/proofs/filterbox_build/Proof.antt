@@ -1,7 +1,8 @@
 -- `filterbox::filterbox_build` meets its contract: it is the promise of `builder::build`, with the answer as a struct.
 -- Assumes nothing.
-use mathlib.Core.Path.{_∙_}
+use mathlib.Core.Path.{_∙_, ap}
 use borrow.Author.Needs.{needs}
+use Rattle.builder.specs.Outcome.{Shown}
 use Rattle.filterbox.proofs.filterbox_build.Statement.{statement}
 use Rattle.filterbox.proofs.filterbox_build.Tie as tie
 
@@ -20,7 +21,11 @@ same-length-2 c = search needs
 returns : tie.Need-returns
 returns c =
     let left = c .before .before .before .before .before .build .ensures in
-    record { answer = c .built-of .ensures ∙ left .answer; table = left .table; scratch = left .scratch }
+    let numbers = c .built-of .ensures in
+    record { refusal = numbers .0 ∙ ap (λ (x : Shown). x .refusal) (left .answer)
+           ; number = numbers .1 ∙ ap (λ (x : Shown). x .number) (left .answer)
+           ; table = left .table
+           ; scratch = left .scratch }
 
 pub filterbox-build-spec : {M : Type 1} → statement M
 filterbox-build-spec =
