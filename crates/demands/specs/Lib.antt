@@ -7,3 +7,4 @@ pub mod Paths
 pub mod Demands
 pub mod Tight
 pub mod Whole
+pub mod Cases

@@ -1,5 +1,6 @@
 -- Building a list and classifying a frame over what was built, as one: what the answer of both calls together says.
 --   Whole l t s f p a x   the answer x is a build's refusal, or a walk of which demands 2 and 3 hold; a frame that is too long is refused by the walk
+--   Rooms b t' s'         the table and the scratch afterwards
 use Prim.Native.Nat.{ℕ, _≤_, _<_, _^_}
 use native.Mathlib.Omega.{arith}
 use mathlib.Core.Path.{_≡_, ap, ap₂, _∙_}
@@ -18,6 +19,11 @@ use Rattle.matcher.specs.declared.Answer.the-variants as A
 use Rattle.matcher.specs.Walk as W
 use Rattle.demands.specs.Builds.{build-success}
 use Rattle.demands.specs.Settled.{Legal, walked, all-done, all-matches, sure-so, out-so}
+
+-- The words that building leaves: classifying changes none.
+pub record Rooms (b : O.Left) (t s : List ℕ) : Type 0 where
+  pub table : t ≡ b .table
+  pub scratch : s ≡ b .scratch
 
 pub record Whole (l t s f : List ℕ) (p a : ℕ) (x : Answer) : Type 0 where
   pub unbuilt : 0 < O.outcome l t s .answer .refusal → W.shown x ≡ W.refused (O.outcome l t s .answer .refusal)

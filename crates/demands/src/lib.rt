@@ -1,5 +1,6 @@
 // The customer's demands, stated and proved from the promises of the public calls (specs/Demands.antt), and both calls as one.
-ghost use Rattle.demands.specs.Whole.{Whole};
+ghost use Rattle.builder.specs.Outcome.{outcome};
+ghost use Rattle.demands.specs.Whole.{Whole, Rooms};
 use builder::Built;
 use matcher::Answer;
 
@@ -13,6 +14,7 @@ pub fn build_and_classify(
     allowance: u32,
 ) -> Answer
     ensures { λ r. ⌜ Whole (now (list .entry)) (now (table .entry)) (now (scratch .entry)) (now (frame .entry)) port allowance r ⌝ }
+    ensures { λ _. ⌜ Rooms (outcome (now (list .entry)) (now (table .entry)) (now (scratch .entry))) (now (table .exit)) (now (scratch .exit)) ⌝ }
 {
     match builder::build(list, table, scratch) {
         Built::States(states) => matcher::classify(frame, port, table, states, allowance),

@@ -30,13 +30,15 @@ returns : tie.Need-returns
 returns c =
     let met = c .before .before .before in
     let after = met .before .before .before .before .before .before in
-    let start = after .before .before .before in
-    whole-built _ _ _ _ _ _ (met .states .given .0 .0) _ (c .classify .result)
-    (ap shown (sym (met .states .given .1)) ∙ after .build .ensures .answer)
-    (after .build .ensures .table)
-    (c .classify .ensures)
-    (start .shared-slice-known2 .given)
-    (omega arith)
+    let start = after .before .before .before in (
+      whole-built _ _ _ _ _ _ (met .states .given .0 .0) _ (c .classify .result)
+          (ap shown (sym (met .states .given .1)) ∙ after .build .ensures .answer)
+          (after .build .ensures .table)
+          (c .classify .ensures)
+          (start .shared-slice-known2 .given)
+          (omega arith),
+      record { table = after .build .ensures .table; scratch = after .build .ensures .scratch },
+    )
 
 same-length-3 : tie.Need-same-length-3
 same-length-3 c = search needs
@@ -47,8 +49,10 @@ same-length-4 c = search needs
 returns-2 : tie.Need-returns-2
 returns-2 c =
     let met = c .before .number .given in
-    let after = c .before .before .before .before .before .before .before in
-    whole-refused _ _ _ _ _ _ (met .0 .0) (met .0 .1 .0) (ap shown (sym (met .1)) ∙ after .build .ensures .answer)
+    let after = c .before .before .before .before .before .before .before in (
+      whole-refused _ _ _ _ _ _ (met .0 .0) (met .0 .1 .0) (ap shown (sym (met .1)) ∙ after .build .ensures .answer),
+      record { table = after .build .ensures .table; scratch = after .build .ensures .scratch },
+    )
 
 pub build-and-classify-spec : {M : Type 1} → statement M
 build-and-classify-spec =

@@ -22,10 +22,12 @@ returns : tie.Need-returns
 returns c =
     let left = c .before .before .before .before .before .build .ensures in
     let numbers = c .built-of .ensures in
-    record { refusal = numbers .0 ∙ ap (λ (x : Shown). x .refusal) (left .answer)
-           ; number = numbers .1 ∙ ap (λ (x : Shown). x .number) (left .answer)
-           ; table = left .table
-           ; scratch = left .scratch }
+    record {
+      refusal = numbers .0 ∙ ap (λ (x : Shown). x .refusal) (left .answer);
+      number = numbers .1 ∙ ap (λ (x : Shown). x .number) (left .answer);
+      table = left .table;
+      scratch = left .scratch;
+    }
 
 pub filterbox-build-spec : {M : Type 1} → statement M
 filterbox-build-spec =
