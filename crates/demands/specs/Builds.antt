@@ -17,7 +17,7 @@ use Rattle.lists.specs.declared.Listed.the-variants as L
 use Rattle.tables.specs.Tables.{slotsOf}
 use Rattle.machine.specs.Box.{statesOf}
 use Rattle.builder.specs.Outcome.{Left, scratchWords, refused, noRoom, placed, accepted, outcomeBy, outcome}
-use Rattle.demands.specs.Faults.{Faulty, listed-faulty}
+use Rattle.lists.specs.Faults.{Faulty, listed-faulty}
 
 pub record Success (l t s : List ℕ) : Type 0 where
   pub well : wellFilters (filtersOf l) ≡ true

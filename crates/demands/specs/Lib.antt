@@ -1,6 +1,5 @@
 pub mod Walks
 pub mod Follows
-pub mod Faults
 pub mod Builds
 pub mod Settled
 pub mod Paths

@@ -18,7 +18,7 @@ use Rattle.residue.specs.declared.Reading.the-variants as R
 use Rattle.fields.specs.Widths.{full}
 use Rattle.fields.specs.Fields.{field}
 use Rattle.fields.specs.Bounds.{Bytes}
-use Rattle.fields.specs.LawsValues.{fitsWidth, value-in-width}
+use Rattle.fields.specs.LawsValues.{value-in-width}
 use Rattle.sets.specs.Sets.{member}
 use Rattle.lists.specs.Accepted.{wellFilters}
 use Rattle.lists.specs.Filters.{Filter, filtersOf, testsIn}
@@ -48,13 +48,8 @@ walked l t s f p a = walkOver (outcome l t s) f p a
 
 -- ---- the frame
 
-width-fits : (top : ℕ) (x : Reading) → fitsWidth top x ≡ true → inWidth top x ≡ true
-unfolding fitsWidth inWidth
-width-fits top R.Absent e = refl
-width-fits top (R.Value x) e = e
-
 legal-widths : (f : List ℕ) (p : ℕ) → Legal f p → InWidths (field f p)
-legal-widths f p legal n = width-fits (full n) (field f p n) (value-in-width f p (legal .bytes) (legal .port) n)
+legal-widths f p legal n = value-in-width f p (legal .bytes) (legal .port) n
 
 -- ---- the walk
 

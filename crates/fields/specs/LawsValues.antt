@@ -1,5 +1,4 @@
 -- The value of a field fits its width.
---   fitsWidth full r    an absent field does, and a number up to full
 use Prim.Native.Nat.{ℕ, zero, suc, _≤_, _<_, _+_, _-_, _^_}
 use mathlib.Core.Path.{_≡_, refl}
 use mathlib.Core.Bool.{Bool, true, false, cond, _||_}
@@ -10,6 +9,7 @@ use mir.Val.{Fits}
 use lib.ListN.{getD}
 use lib.Pow.{le-ones}
 use borrow.Author.Tests.{le-leb, leb-true}
+use Rattle.residue.specs.Relations.{inWidth}
 use Rattle.residue.specs.declared.Reading.{Reading}
 use Rattle.residue.specs.declared.Reading.the-variants.{Absent, Value}
 use Rattle.fields.specs.Widths.{widths, width, full}
@@ -17,31 +17,27 @@ use Rattle.fields.specs.Fields.{present, ethernet, internet, carries, pr
 use Rattle.fields.specs.LawsPresence.{transport-byte}
 use Rattle.fields.specs.Bounds.{Bytes, byte-fits, two-fits, four-fits}
 
-unfoldable pub fitsWidth : ℕ → Reading → Bool
-fitsWidth top Absent = true
-fitsWidth top (Value x) = leb x top
-
 -- Each reading fits the width beside it.
 data AllFit : List ℕ → List Reading → Type 0 where
   none : AllFit [] []
   more :
       {w : ℕ} {ws : List ℕ} {r : Reading} {rs : List Reading} →
-      fitsWidth (2 ^ w - 1) r ≡ true →
+      inWidth (2 ^ w - 1) r ≡ true →
       AllFit ws rs →
       AllFit (w ∷ ws) (r ∷ rs)
 
-fit-at : {ws : List ℕ} {rs : List Reading} → AllFit ws rs → (n : ℕ) → fitsWidth (2 ^ getD ws n 0 - 1) (getD rs n Absent) ≡ true
-unfolding fitsWidth
+fit-at : {ws : List ℕ} {rs : List Reading} → AllFit ws rs → (n : ℕ) → inWidth (2 ^ getD ws n 0 - 1) (getD rs n Absent) ≡ true
+unfolding inWidth
 fit-at none n = refl
 fit-at (more fit fits) zero = fit
 fit-at (more fit fits) (suc n) = fit-at fits n
 
-value-fits-width : (w : ℕ) {x : ℕ} → x < 2 ^ w → fitsWidth (2 ^ w - 1) (Value x) ≡ true
-unfolding fitsWidth
+value-fits-width : (w : ℕ) {x : ℕ} → x < 2 ^ w → inWidth (2 ^ w - 1) (Value x) ≡ true
+unfolding inWidth
 value-fits-width w {x} h = le-leb x (2 ^ w - 1) (le-ones w h)
 
-present-fits : (w : ℕ) (b : Bool) {x : ℕ} → x < 2 ^ w → fitsWidth (2 ^ w - 1) (present b x) ≡ true
-unfolding fitsWidth
+present-fits : (w : ℕ) (b : Bool) {x : ℕ} → x < 2 ^ w → inWidth (2 ^ w - 1) (present b x) ≡ true
+unfolding inWidth
 present-fits w true h = value-fits-width w h
 present-fits w false h = refl
 
@@ -75,10 +71,10 @@ all-fit f p known port =
     (more (value-fits-width 8 port) none)))))))))))))
 
 module _ (f : List ℕ) (p : ℕ) (known : Bytes f) (port : p < 2 ^ 8) (n : ℕ) where
-  pub value-in-width : fitsWidth (full n) (field f p n) ≡ true
+  pub value-in-width : inWidth (full n) (field f p n) ≡ true
   unfolding full width field
   value-in-width = fit-at (all-fit f p known port) n
 
   pub value-fits : {x : ℕ} → field f p n ≡ Value x → x ≤ full n
-  unfolding fitsWidth
+  unfolding inWidth
   value-fits {x} e = leb-true x (full n) (rw e at value-in-width)

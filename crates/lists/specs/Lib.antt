@@ -3,3 +3,4 @@ pub mod Refusals
 pub mod Ranks
 pub mod Accepted
 pub mod Laws
+pub mod Faults

@@ -1,26 +1,22 @@
 -- States that fit a slot: no filter has more remaining tests than there is room for. The start of an accepted list fits, and each step keeps it so.
 --   fitsStanding x, fitsSlot s   at most 8 tests remain, of one filter and of each
-use Prim.Native.Nat.{ℕ, suc, _+_, _≤_}
+use Prim.Native.Nat.{ℕ, _+_, _≤_}
 use mathlib.Core.Path.{_≡_, refl}
 use mathlib.Core.Bool.{Bool, true, false, cond, _&&_}
 use mathlib.Core.List.{List, [], _∷_, map}
-use native.Mathlib.Nat.{le-refl}
 use native.Mathlib.Omega.{arith}
-use lib.Dec.{leb, eqb}
+use lib.Dec.{leb}
 use lib.ListN.{length}
 use borrow.Author.Tests.{leb-true, le-leb}
-use Rattle.residue.specs.Choice.{by-cond, both, first, second}
-use Rattle.residue.specs.Residues.{residueBy}
+use Rattle.residue.specs.Choice.{both, first, second}
 use Rattle.residue.specs.declared.Fact.{Fact}
 use Rattle.residue.specs.declared.Outcome.{Outcome}
-use Rattle.residue.specs.declared.Residue.{Residue}
-use Rattle.residue.specs.declared.Residue.the-variants.{True, False, Left}
-use Rattle.fields.specs.Widths.{full}
 use Rattle.lists.specs.Filters.{Item, Filter, maxTests}
 use Rattle.lists.specs.Accepted.{wellFilter, wellFilters}
 use Rattle.lists.specs.Laws.{well-few}
-use Rattle.states.specs.States.{Standing, out, left, State, keep, join, cut, cutStanding, beaten, closedFrom, closed, allLeft, start, stepBy, remainingIn, step}
+use Rattle.states.specs.States.{Standing, out, State, cutStanding, beaten, closedFrom, closed, allLeft, start, stepBy, remainingIn, step}
 use Rattle.states.specs.Laws.{step-keeps}
+use Rattle.states.specs.Measure.{cutStanding-le, closed-le}
 
 unfoldable pub fitsStanding : Standing → Bool
 fitsStanding x = leb (remainingIn x) maxTests
@@ -39,34 +35,6 @@ le-fits : (x y : Standing) → remainingIn x ≤ remainingIn y → fitsStanding 
 unfolding fitsStanding
 le-fits x y l e = le-leb (remainingIn x) maxTests (omega (arith, leb-true (remainingIn y) maxTests e))
 
-keep-le : (m : ℕ) (t : Item) (x : Standing) → remainingIn x ≤ m → remainingIn (keep t x) ≤ suc m
-unfolding keep remainingIn
-keep-le m t out l = omega arith
-keep-le m t (left ts) l = omega arith
-
-join-le : (m n : ℕ) (d : Residue) (x : Standing) → remainingIn x ≤ m → remainingIn (join n d x) ≤ suc m
-unfolding join remainingIn
-join-le m n True x l = omega arith
-join-le m n False x l = omega arith
-join-le m n (Left u) x l = keep-le m (record { field = n; test = u }) x l
-
-cut-le : (n : ℕ) (k : Fact) (ts : List Item) → remainingIn (cut n k ts) ≤ length ts
-unfolding cut remainingIn
-cut-le n k [] = le-refl _
-cut-le n k (t ∷ ts) =
-    by-cond (λ (x : Standing). remainingIn x ≤ suc (length ts)) (eqb (t .field) n)
-    (λ _. join-le (length ts) n (residueBy (full n) k (t .test)) (cut n k ts) (cut-le n k ts)) (λ _. keep-le (length ts) t (cut n k ts) (cut-le n k ts))
-
-cutStanding-le : (n : ℕ) (k : Fact) (x : Standing) → remainingIn (cutStanding n k x) ≤ remainingIn x
-unfolding cutStanding remainingIn
-cutStanding-le n k out = le-refl _
-cutStanding-le n k (left ts) = cut-le n k ts
-
-closed-le : (b : Bool) (x : Standing) → remainingIn (cond b out x) ≤ remainingIn x
-unfolding remainingIn
-closed-le true x = omega arith
-closed-le false x = le-refl _
-
 -- ---- all filters
 
 pub fits-cut : (n : ℕ) (k : Fact) (s : State) → fitsSlot s ≡ true → fitsSlot (map (cutStanding n k) s) ≡ true
@@ -81,7 +49,7 @@ unfolding fitsSlot closedFrom
 fits-from fs s i [] e = refl
 fits-from fs s i (x ∷ xs) e =
     both (fitsStanding (cond (beaten fs s i) out x)) (fitsSlot (closedFrom fs s (i + 1) xs))
-    (le-fits (cond (beaten fs s i) out x) x (closed-le (beaten fs s i) x) (first (fitsStanding x) (fitsSlot xs) e)) (fits-from fs s (i + 1) xs (second (fitsStanding x) (fitsSlot xs) e))
+    (le-fits (cond (beaten fs s i) out x) x (closed-le x (beaten fs s i)) (first (fitsStanding x) (fitsSlot xs) e)) (fits-from fs s (i + 1) xs (second (fitsStanding x) (fitsSlot xs) e))
 
 pub fits-closed : (fs : List Filter) (s : State) → fitsSlot s ≡ true → fitsSlot (closed fs s) ≡ true
 unfolding closed

@@ -55,7 +55,7 @@ cut-le n k (t ∷ ts) =
     (λ _. omega (arith, join-le n (residueBy (full n) k (t .test)) (cut n k ts), cut-le n k ts))
     (λ _. omega (arith, keep-le t (cut n k ts), cut-le n k ts))
 
-cutStanding-le : (n : ℕ) (k : Fact) (x : Standing) → remainingIn (cutStanding n k x) ≤ remainingIn x
+pub cutStanding-le : (n : ℕ) (k : Fact) (x : Standing) → remainingIn (cutStanding n k x) ≤ remainingIn x
 unfolding cutStanding remainingIn
 cutStanding-le n k out = le-refl _
 cutStanding-le n k (left ts) = cut-le n k ts
@@ -65,7 +65,7 @@ unfolding remaining
 map-le n k [] = le-refl _
 map-le n k (x ∷ s) = omega (arith, cutStanding-le n k x, map-le n k s)
 
-closed-le : (x : Standing) (b : Bool) → remainingIn (cond b out x) ≤ remainingIn x
+pub closed-le : (x : Standing) (b : Bool) → remainingIn (cond b out x) ≤ remainingIn x
 unfolding remainingIn
 closed-le x true = omega arith
 closed-le x false = le-refl _
