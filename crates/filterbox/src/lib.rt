@@ -1,0 +1,104 @@
+// The static library: the public calls under C names (include/filterbox.h).
+ghost use mathlib.Core.Path.{_≡_};
+ghost use Rattle.slots.specs.Words.{slotWords};
+ghost use Rattle.builder.specs.Outcome.{outcome};
+ghost use Rattle.builder.specs.Outcome.{shown as B·shown};
+ghost use Rattle.matcher.specs.Walk.{walk};
+ghost use Rattle.matcher.specs.Walk.{shown as W·shown};
+ghost use Rattle.filterbox.specs.Shown.{compiled, Compiled, classified};
+use builder::Built;
+use matcher::Answer;
+
+// The refusal's number, 0 where the table was built; and the number of states, or the filter's number.
+#[repr(C)]
+pub struct FilterboxBuilt {
+    pub refusal: u32,
+    pub number: u32,
+}
+
+fn built_of(built: Built) -> FilterboxBuilt
+    ensures { λ r. ⌜ compiled r ≡ B·shown built ⌝ }
+{
+    match built {
+        Built::States(states) => FilterboxBuilt {
+            refusal: 0,
+            number: states,
+        },
+        Built::Refused(number, filter) => FilterboxBuilt {
+            refusal: number,
+            number: filter,
+        },
+    }
+}
+
+// Compiles a list into the table, with the scratch, of which each slot of the table needs so many words as filterbox_scratch_words says.
+#[no_mangle]
+pub extern "C" fn filterbox_build(
+    list: &[u32],
+    table: &mut [u32],
+    scratch: &mut [u32],
+) -> FilterboxBuilt
+    ensures { λ r. ⌜ Compiled (outcome (now (list .entry)) (now (table .entry)) (now (scratch .entry))) r (now (table .exit)) (now (scratch .exit)) ⌝ }
+{
+    built_of(builder::build(list, table, scratch))
+}
+
+// The scratch words that building takes for each slot of the table.
+#[no_mangle]
+pub extern "C" fn filterbox_scratch_words() -> u32
+    ensures { λ r. ⌜ r ≡ slotWords ⌝ }
+{
+    1024
+}
+
+// How a walk ended (0 refused, 1 done, 2 stopped), the refusal's number or 0, the sure set, the out set and the questions asked.
+#[repr(C)]
+pub struct FilterboxAnswer {
+    pub ended: u32,
+    pub refusal: u32,
+    pub sure: u32,
+    pub out: u32,
+    pub asked: u32,
+}
+
+fn answer_of(answer: Answer) -> FilterboxAnswer
+    ensures { λ r. ⌜ classified r ≡ W·shown answer ⌝ }
+{
+    match answer {
+        Answer::Done(sure, out, asked) => FilterboxAnswer {
+            ended: 1,
+            refusal: 0,
+            sure,
+            out,
+            asked,
+        },
+        Answer::Stopped(sure, out, asked) => FilterboxAnswer {
+            ended: 2,
+            refusal: 0,
+            sure,
+            out,
+            asked,
+        },
+        Answer::Refused(number) => FilterboxAnswer {
+            ended: 0,
+            refusal: number,
+            sure: 0,
+            out: 0,
+            asked: 0,
+        },
+    }
+}
+
+// Walks a frame, which came in at a box port, through a table of so many states, with at most `allowance` questions.
+#[no_mangle]
+pub extern "C" fn filterbox_classify(
+    frame: &[u8],
+    port: u8,
+    table: &[u32],
+    states: u32,
+    allowance: u32,
+) -> FilterboxAnswer
+    ensures { λ r. ⌜ classified r ≡ walk (now (frame .entry)) port (now (table .entry)) states allowance ⌝ }
+{
+    answer_of(matcher::classify(frame, port, table, states, allowance))
+}
