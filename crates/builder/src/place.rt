@@ -49,17 +49,8 @@ fn place_way(
         }
         Met::Full => Room::Full,
         Met::New => {
-            let Room::Used(now) = place_state(
-                ranks,
-                n,
-                slots,
-                left,
-                table,
-                scratch,
-                words,
-                used,
-                used + 1,
-            ) else {
+            let placed = place_state(ranks, n, slots, left, table, scratch, words, used, used + 1);
+            let Room::Used(now) = placed else {
                 return Room::Full;
             };
             table[word] = used as u32;

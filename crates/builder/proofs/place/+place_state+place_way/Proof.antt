@@ -455,7 +455,7 @@ place-way-place-state-requires t c κs =
       (P.ready-new (a .n) (a .slots) (now (a .ranks)) (a .left) (a .at) (a .used) (a .o) (now (a .table)) (now (a .scratch)) (start .pre .1 .0) (w .meet .result) (w .meet .last .1 .1 .1 .0) (w .meet .last .1 .1 .1 .1 .0) (e .given .1) (w .meet .ensures) (w .meet .kept .1 .1 .1 .0) (w .meet .kept .1 .1 .1 .1 .0), roomy (a .n) _ _ (w .meet .kept .1 .1 .1 .1 .1 .0) (start .pre .1 .1)),
     )
 
-place-way-enum-known-now : (t : ℕ) → place-way-lts.Need-enum-known-now (
+place-way-enum-known-placed : (t : ℕ) → place-way-lts.Need-enum-known-placed (
   next-word-reads.Asked,
   next-word-reads.Learnt,
   meet-reads.Asked,
@@ -463,7 +463,7 @@ place-way-enum-known-now : (t : ℕ) → place-way-lts.Need-enum-known-now (
   place-state-below t,
   place-state.Post,
 ) (place-way-at t) place-way.Post
-place-way-enum-known-now t c = search needs
+place-way-enum-known-placed t c = search needs
 
 place-way-enum-told-3 : (t : ℕ) → place-way-lts.Need-enum-told-3 (
   next-word-reads.Asked,
@@ -710,7 +710,7 @@ place-way-returns-4 t c =
     let a = start .args in
     let nw = w .before .before .before .before .next-word in
     let e = v .before .before .before .before .enum-told2 in
-    let u = c .before .now .given in
+    let u = c .before .placed .given in
     P.placed-new (a .n) (a .slots) (now (a .ranks)) (a .left) (a .at) (a .used) (a .o) (now (a .table)) (now (a .scratch)) (start .pre .1 .0) (w .meet .result) (w .meet .last .1 .1 .1 .0) (w .meet .last .1 .1 .1 .1 .0) (e .given .1) (w .meet .ensures) (nw .result) (u .0 .0) (v .place-state .result) (v .place-state .last .1 .1 .1 .1 .0) (v .place-state .last .1 .1 .1 .1 .1 .0) (nw .ensures) (u .1) (v .place-state .ensures)
 
 pub +place-state+place-way-spec : {M : Type 1} → statement M
@@ -768,7 +768,7 @@ pub +place-state+place-way-spec : {M : Type 1} → statement M
     (place-way-enum-told-2 t)
     (place-way-add-place-state t)
     (place-way-place-state-requires t)
-    (place-way-enum-known-now t)
+    (place-way-enum-known-placed t)
     (place-way-enum-told-3 t)
     (place-way-same-length t)
     (place-way-same-length-2 t)
