@@ -1,4 +1,4 @@
--- Meeting a candidate: its words in a lent part of a larger array, and what each answer of the search means.
+-- Meeting a candidate: its words in front of a larger run, and what each answer of the search means.
 -- Assumes nothing.
 use Prim.Native.Nat.{ℕ, _+_, _*_, _-_, _≤_, _<_}
 use mathlib.Core.Path.{_≡_, refl, sym, ap, _∙_, subst}
@@ -9,7 +9,6 @@ use lib.Arith.{lt-of-le-ne}
 use lib.ListN.{length, take, drop, length-append, length-drop}
 use lib.Seq.{take-at, length-take-le}
 use Rattle.residue.specs.declared.Outcome.{Outcome}
-use Rattle.lists.specs.Filters.{maxFilters}
 use Rattle.slots.specs.Words.{filterSlot, slotWords}
 use Rattle.slots.specs.Slots.{stepWords}
 use Rattle.slots.specs.Steps.{Stepped}
@@ -24,21 +23,21 @@ use Rattle.builder.specs.declared.Found.the-variants as F
 use Rattle.builder.specs.declared.Met.the-variants as M
 use Rattle.builder.proofs.Finding.{slot-part}
 
--- ---- the candidate's words p, in front of an array
+-- ---- the candidate's words p, in front of the words lent for it
 
-module _ (n : ℕ) (array : List ℕ) (few : n ≤ maxFilters) (long : length array ≡ slotWords) where
-  pub front-long : filterSlot * n ≡ length (take (filterSlot * n) array)
-  front-long = sym (length-take-le (filterSlot * n) array (omega arith))
+module _ (n : ℕ) (words : List ℕ) (roomy : filterSlot * n ≤ length words) where
+  pub front-long : filterSlot * n ≡ length (take (filterSlot * n) words)
+  front-long = sym (length-take-le (filterSlot * n) words roomy)
 
-  module _ (p : List ℕ) (as-lent : length p ≡ length (take (filterSlot * n) array)) where
+  module _ (p : List ℕ) (as-lent : length p ≡ length (take (filterSlot * n) words)) where
     abbrev pub front : List ℕ
-    front = take (filterSlot * n) (p ++ drop (filterSlot * n) array)
+    front = take (filterSlot * n) (p ++ drop (filterSlot * n) words)
 
-    pub front-fits : filterSlot * n ≤ length (p ++ drop (filterSlot * n) array)
-    front-fits = omega (arith, length-append p (drop (filterSlot * n) array), front-long, as-lent)
+    pub front-fits : filterSlot * n ≤ length (p ++ drop (filterSlot * n) words)
+    front-fits = omega (arith, length-append p (drop (filterSlot * n) words), front-long, as-lent)
 
     pub front-is : front ≡ p
-    front-is = take-at p (drop (filterSlot * n) array) (filterSlot * n) (as-lent ∙ sym front-long)
+    front-is = take-at p (drop (filterSlot * n) words) (filterSlot * n) (as-lent ∙ sym front-long)
 
     pub front-whole : length front ≡ filterSlot * n
     front-whole = ap length front-is ∙ as-lent ∙ sym front-long
@@ -54,10 +53,10 @@ pub slot-left : (slots used : ℕ) → used ≤ slots → (used ≡ slots → �
 slot-left slots used h ne = lt-of-le-ne h ne
 
 module _ (n slots : ℕ) (ranks : List ℕ) (at used : ℕ) (t s : List ℕ) where
-  pub step-asks : (array : List ℕ) → length array ≡ slotWords → Ready n slots ranks at used t s
-      → Stepped n ranks (take (slotWords * at + filterSlot * n - slotWords * at) (drop (slotWords * at) s)) (take (filterSlot * n) array)
+  pub step-asks : (words : List ℕ) → filterSlot * n ≤ length words → Ready n slots ranks at used t s
+      → Stepped n ranks (take (slotWords * at + filterSlot * n - slotWords * at) (drop (slotWords * at) s)) (take (filterSlot * n) words)
   unfolding slotAt
-  step-asks array long ready =
+  step-asks words roomy ready =
       let few = ready .filters in
       let inside = ready .inside in
       let within = ready .within in
@@ -67,7 +66,7 @@ module _ (n slots : ℕ) (ranks : List ℕ) (at used : ℕ) (t s : List ℕ) whe
       record {
         few = few;
         source = ap length (slot-part n at s) ∙ length-take-le (filterSlot * n) (drop (slotWords * at) s) (omega arith);
-        target = sym (front-long n array few long);
+        target = sym (front-long n words roomy);
         ranked = omega arith;
       }
 

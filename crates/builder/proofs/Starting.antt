@@ -17,6 +17,9 @@ module _ (n slots k : ℕ) (ranks l t s : List ℕ) (able : Startable n slots k 
   pub start-few : n ≤ maxFilters
   start-few = accepted-count l n k (able .listing) .2
 
+  pub start-roomy : filterSlot * n ≤ slotWords
+  start-roomy = let few = start-few in omega arith
+
   pub start-asks : (d : List ℕ) → length d ≡ filterSlot * n → Starts n l d
   start-asks d long = record { accepted = (k, able .listing); target = long }
 

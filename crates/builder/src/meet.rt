@@ -4,7 +4,9 @@ use crate::Met;
 use residue::Outcome;
 ghost use mathlib.Core.Path.{_≡_};
 ghost use mathlib.Core.List.{List};
-ghost use Prim.Native.Nat.{ℕ};
+ghost use Prim.Native.Nat.{ℕ, _*_, _≤_};
+ghost use lib.ListN.{length};
+ghost use Rattle.slots.specs.Words.{filterSlot};
 ghost use Rattle.slots.specs.Slots.{stepWords, asksIn};
 ghost use Rattle.builder.specs.Memory.{slotAt, statesIn, foundIn};
 ghost use Rattle.builder.specs.Promises.{Ready, Held, Search, Store, Stored, Meeting};
@@ -44,22 +46,24 @@ pub fn store(
 }
 
 // Meets the state that an outcome leads to from the state in slot `at`. It is made outside the slots: where all are used an old state is still recognised.
+// Its words are lent, since the recursion comes through here and an array would stand in each of its frames; what is left in them is read by nobody, so nothing is said of it.
 pub fn meet(
     ranks: &[u32],
     n: usize,
     slots: usize,
     table: &mut [u32],
     scratch: &mut [u32],
+    words: &mut [u32],
     at: usize,
     o: Outcome,
     used: usize,
 ) -> Met
     requires { ⌜ Ready n slots (now ranks) at used (now table) (now scratch) ⌝ }
+    requires { ⌜ filterSlot * n ≤ length (now words) ⌝ }
     ensures { λ r. ⌜ Meeting n slots (now (ranks .entry)) used (now (table .entry)) (now (scratch .entry)) (stepWords n (now (ranks .entry)) o (slotAt n (now (scratch .entry)) at)) r (now (table .exit)) (now (scratch .exit)) ⌝ }
 {
     let width = 32 * n;
     let from = 1024 * at;
-    let mut words = [0u32; 1024];
     slots::step_into(
         &scratch[from..from + width],
         &mut words[..width],

@@ -5,7 +5,9 @@ use crate::meet::asks;
 use crate::meet::meet;
 use residue::Outcome;
 ghost use mathlib.Core.Path.{_≡_};
-ghost use Prim.Native.Nat.{_+_, _*_};
+ghost use Prim.Native.Nat.{_+_, _*_, _≤_};
+ghost use lib.ListN.{length};
+ghost use Rattle.slots.specs.Words.{filterSlot};
 ghost use Rattle.automaton.specs.Placing.{placeState, placeWay, nextWord};
 ghost use Rattle.machine.specs.Box.{slotsIn};
 ghost use Rattle.builder.specs.Memory.{slotAt, memoryOf};
@@ -22,7 +24,7 @@ fn next_word(o: Outcome) -> usize
     }
 }
 
-// Builds the way of an outcome from the state in slot `at`: its state, and that state's ways if it is new, of which at most `left` questions follow one another.
+// Builds the way of an outcome from the state in slot `at`: its state, and that state's ways if it is new, of which at most `left` questions follow one another. The words are room for `meet`.
 fn place_way(
     ranks: &[u32],
     n: usize,
@@ -30,23 +32,25 @@ fn place_way(
     left: u32,
     table: &mut [u32],
     scratch: &mut [u32],
+    words: &mut [u32],
     at: usize,
     o: Outcome,
     used: usize,
 ) -> Room
     requires { ⌜ Ready n slots (now ranks) at used (now table) (now scratch) ⌝ }
+    requires { ⌜ filterSlot * n ≤ length (now words) ⌝ }
     ensures { λ r. ⌜ Placing n slots (now (ranks .entry)) used (now (table .entry)) (now (scratch .entry)) r (now (table .exit)) (now (scratch .exit)) (placeWay (slotsIn n (now (ranks .entry))) slots (placeState (slotsIn n (now (ranks .entry))) slots left) o at (slotAt n (now (scratch .entry)) at) (memoryOf n (now (ranks .entry)) used (now (table .entry)) (now (scratch .entry)))) ⌝ }
 {
     let word = 9 * at + next_word(o);
-    match meet(ranks, n, slots, table, scratch, at, o, used) {
+    match meet(ranks, n, slots, table, scratch, words, at, o, used) {
         Met::Old(number) => {
             table[word] = number as u32;
             Room::Used(used)
         }
         Met::Full => Room::Full,
         Met::New => {
-            let Room::Used(now) = place_state(ranks, n, slots, left, table, scratch, used, used + 1)
-            else {
+            let placed = place_state(ranks, n, slots, left, table, scratch, words, used, used + 1);
+            let Room::Used(now) = placed else {
                 return Room::Full;
             };
             table[word] = used as u32;
@@ -55,7 +59,7 @@ fn place_way(
     }
 }
 
-// Builds the ways of the state in slot `at`, each to its end before the next; at most `left` questions follow one another.
+// Builds the ways of the state in slot `at`, each to its end before the next; at most `left` questions follow one another. The words are room for `meet`.
 pub fn place_state(
     ranks: &[u32],
     n: usize,
@@ -63,10 +67,12 @@ pub fn place_state(
     left: u32,
     table: &mut [u32],
     scratch: &mut [u32],
+    words: &mut [u32],
     at: usize,
     used: usize,
 ) -> Room
     requires { ⌜ Ready n slots (now ranks) at used (now table) (now scratch) ⌝ }
+    requires { ⌜ filterSlot * n ≤ length (now words) ⌝ }
     ensures { λ r. ⌜ Placing n slots (now (ranks .entry)) used (now (table .entry)) (now (scratch .entry)) r (now (table .exit)) (now (scratch .exit)) (placeState (slotsIn n (now (ranks .entry))) slots left at (slotAt n (now (scratch .entry)) at) (memoryOf n (now (ranks .entry)) used (now (table .entry)) (now (scratch .entry)))) ⌝ }
 {
     if left == 0 {
@@ -83,6 +89,7 @@ pub fn place_state(
         less,
         table,
         scratch,
+        words,
         at,
         Outcome::Holds,
         used,
@@ -96,6 +103,7 @@ pub fn place_state(
         less,
         table,
         scratch,
+        words,
         at,
         Outcome::Fails,
         first,
@@ -109,6 +117,7 @@ pub fn place_state(
         less,
         table,
         scratch,
+        words,
         at,
         Outcome::Absent,
         second,

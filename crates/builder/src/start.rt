@@ -8,7 +8,7 @@ ghost use Rattle.machine.specs.Box.{slotsIn};
 ghost use Rattle.slots.specs.Slots.{startWords};
 ghost use Rattle.builder.specs.Building.{Started, Startable};
 
-// Places the start and its ways; at most `tests` questions follow one another.
+// Places the start and its ways; at most `tests` questions follow one another. The words of the start become the room in which every later state is made.
 pub fn place_start(
     ranks: &[u32],
     list: &[u32],
@@ -28,5 +28,5 @@ pub fn place_start(
     let mut words = [0u32; 1024];
     slots::start_into(list, &mut words[..width], n, ranks);
     store(ranks, n, slots, table, scratch, &words[..width], 0);
-    place_state(ranks, n, slots, tests, table, scratch, 0, 1)
+    place_state(ranks, n, slots, tests, table, scratch, &mut words, 0, 1)
 }

@@ -7,11 +7,12 @@ use lib.ListN.{length, set, length-set}
 use borrow.Author.Tests.{not-true, not-false}
 use denote.Ref.{now}
 use Rattle.tables.specs.Tables.{recordWords}
+use Rattle.slots.specs.Words.{filterSlot}
 use Rattle.automaton.specs.Placing.{nextWord}
 use Rattle.builder.specs.Placed as P
 use Rattle.builder.specs.Promises.{Ready, Placing, Meeting}
 use borrow.Author.Needs.{needs}
-use Prim.Native.Nat.{ℕ, _<_, _*_, _+_, _-_}
+use Prim.Native.Nat.{ℕ, _<_, _≤_, _*_, _+_, _-_}
 use borrow.Fn.Kinds.{In}
 use borrow.Fn.PlainCycle.{Measures, is, falls, and}
 use Rattle.builder.proofs.place.place_state.Reads as place-state
@@ -26,26 +27,30 @@ use Rattle.builder.proofs.place.next_word.Reads as next-word-reads
 use Rattle.builder.proofs.place.+place_state+place_way.{statement}
 use Rattle.builder.proofs.place.+place_state+place_way.Tie.{close}
 
-abbrev μ-place-state : Measures 3 place-state-kinds.ps ℕ
+-- Words that came back are as many as were lent: a candidate still has room in them.
+roomy : (n k k' : ℕ) → k' ≡ k → filterSlot * n ≤ k → filterSlot * n ≤ k'
+roomy n k k' e h = subst (λ (m : ℕ). filterSlot * n ≤ m) (sym e) h
+
+abbrev μ-place-state : Measures 4 place-state-kinds.ps ℕ
 μ-place-state κs a = 2 * a .1 .1 .1 .0
 
-abbrev μ-place-way : Measures 3 place-way-kinds.ps ℕ
+abbrev μ-place-way : Measures 4 place-way-kinds.ps ℕ
 μ-place-way κs a = 2 * a .1 .1 .1 .0 + 1
 
-abbrev place-state-at : ℕ → In 3 place-state-kinds.ps
+abbrev place-state-at : ℕ → In 4 place-state-kinds.ps
 place-state-at t =
-    and 3 place-state-kinds.ps (is 3 place-state-kinds.ps μ-place-state t) place-state.Pre
+    and 4 place-state-kinds.ps (is 4 place-state-kinds.ps μ-place-state t) place-state.Pre
 
-abbrev place-state-below : ℕ → In 3 place-state-kinds.ps
+abbrev place-state-below : ℕ → In 4 place-state-kinds.ps
 place-state-below t =
-    and 3 place-state-kinds.ps (falls 3 place-state-kinds.ps _<_ μ-place-state t) place-state.Pre
+    and 4 place-state-kinds.ps (falls 4 place-state-kinds.ps _<_ μ-place-state t) place-state.Pre
 
-abbrev place-way-at : ℕ → In 3 place-way-kinds.ps
-place-way-at t = and 3 place-way-kinds.ps (is 3 place-way-kinds.ps μ-place-way t) place-way.Pre
+abbrev place-way-at : ℕ → In 4 place-way-kinds.ps
+place-way-at t = and 4 place-way-kinds.ps (is 4 place-way-kinds.ps μ-place-way t) place-way.Pre
 
-abbrev place-way-below : ℕ → In 3 place-way-kinds.ps
+abbrev place-way-below : ℕ → In 4 place-way-kinds.ps
 place-way-below t =
-    and 3 place-way-kinds.ps (falls 3 place-way-kinds.ps _<_ μ-place-way t) place-way.Pre
+    and 4 place-way-kinds.ps (falls 4 place-way-kinds.ps _<_ μ-place-way t) place-way.Pre
 
 place-state-returns : (t : ℕ) → place-state-lts.Need-returns (
   asks-reads.Asked,
@@ -54,9 +59,9 @@ place-state-returns : (t : ℕ) → place-state-lts.Need-returns (
   place-way.Post,
 ) (place-state-at t) place-state.Post
 place-state-returns t c =
-    let start = c .before .before .before .before in
+    let start = c .before .before .before .before .before in
     let a = start .args in
-    P.none-left (a .n) (a .slots) (now (a .ranks)) (a .left) (a .at) (a .used) (now (a .table)) (now (a .scratch)) (start .pre .1) (c .if1 .taken)
+    P.none-left (a .n) (a .slots) (now (a .ranks)) (a .left) (a .at) (a .used) (now (a .table)) (now (a .scratch)) (start .pre .1 .0) (c .if1 .taken)
 
 place-state-asks-requires : (t : ℕ) → place-state-lts.Need-asks-requires (
   asks-reads.Asked,
@@ -65,9 +70,9 @@ place-state-asks-requires : (t : ℕ) → place-state-lts.Need-asks-requires (
   place-way.Post,
 ) (place-state-at t) place-state.Post
 place-state-asks-requires t c κs =
-    let start = c .before .before .before .before .before in
+    let start = c .before .before .before .before .before .before in
     let a = start .args in
-    P.held (a .n) (a .slots) (now (a .ranks)) (a .at) (a .used) (now (a .table)) (now (a .scratch)) (start .pre .1)
+    P.held (a .n) (a .slots) (now (a .ranks)) (a .at) (a .used) (now (a .table)) (now (a .scratch)) (start .pre .1 .0)
 
 place-state-same-length : (t : ℕ) → place-state-lts.Need-same-length (
   asks-reads.Asked,
@@ -84,9 +89,9 @@ place-state-returns-2 : (t : ℕ) → place-state-lts.Need-returns-2 (
   place-way.Post,
 ) (place-state-at t) place-state.Post
 place-state-returns-2 t c =
-    let start = c .before .before .before .before .before .before .before in
+    let start = c .before .before .before .before .before .before .before .before in
     let a = start .args in
-    P.none-asked (a .n) (a .slots) (now (a .ranks)) (a .left) (a .at) (a .used) (now (a .table)) (now (a .scratch)) (start .pre .1) (sym (c .before .asks .ensures) ∙ not-true (c .before .asks .result) (c .if2 .taken))
+    P.none-asked (a .n) (a .slots) (now (a .ranks)) (a .left) (a .at) (a .used) (now (a .table)) (now (a .scratch)) (start .pre .1 .0) (sym (c .before .asks .ensures) ∙ not-true (c .before .asks .result) (c .if2 .taken))
 
 place-state-sub-less : (t : ℕ) → place-state-lts.Need-sub-less (
   asks-reads.Asked,
@@ -103,8 +108,8 @@ place-state-place-way-requires : (t : ℕ) → place-state-lts.Need-place-way-re
   place-way.Post,
 ) (place-state-at t) place-state.Post
 place-state-place-way-requires t c κs =
-    let start = c .before .before .before .before .before .before .before .before .before in
-    (subst (λ (j : ℕ). 2 * (start .args .left - 1) + 1 < j) (start .pre .0) (P.way-less (start .args .left) (c .before .before .before .before .before .if1 .left)), start .pre .1)
+    let start = c .before .before .before .before .before .before .before .before .before .before .before in
+    (subst (λ (j : ℕ). 2 * (start .args .left - 1) + 1 < j) (start .pre .0) (P.way-less (start .args .left) (c .before .before .before .before .before .before .if1 .left)), start .pre .1)
 
 place-state-enum-known-first : (t : ℕ) → place-state-lts.Need-enum-known-first (
   asks-reads.Asked,
@@ -138,6 +143,14 @@ place-state-same-length-3 : (t : ℕ) → place-state-lts.Need-same-length-3 (
 ) (place-state-at t) place-state.Post
 place-state-same-length-3 t c = search needs
 
+place-state-same-length-4 : (t : ℕ) → place-state-lts.Need-same-length-4 (
+  asks-reads.Asked,
+  asks-reads.Learnt,
+  place-way-below t,
+  place-way.Post,
+) (place-state-at t) place-state.Post
+place-state-same-length-4 t c = search needs
+
 place-state-returns-3 : (t : ℕ) → place-state-lts.Need-returns-3 (
   asks-reads.Asked,
   asks-reads.Learnt,
@@ -145,12 +158,12 @@ place-state-returns-3 : (t : ℕ) → place-state-lts.Need-returns-3 (
   place-way.Post,
 ) (place-state-at t) place-state.Post
 place-state-returns-3 t c =
-    let w = c .before .before .before .before .before .before in
-    let start = w .before .before .before .before .before .before .before .before .before .before in
+    let w = c .before .before .before .before .before .before .before .before in
+    let start = w .before .before .before .before .before .before .before .before .before .before .before .before in
     let a = start .args in
-    let more = w .before .before .before .before .before .before .if1 .left in
-    let asked = sym (w .before .before .before .before .asks .ensures) ∙ not-false (w .before .before .before .before .asks .result) (w .before .before .before .if2 .left) in
-    P.first-full (a .n) (a .slots) (now (a .ranks)) (a .left) (a .at) (a .used) (now (a .table)) (now (a .scratch)) (start .pre .1) more asked (w .place-way .result) (w .place-way .last .1 .1 .1 .1 .0) (w .place-way .last .1 .1 .1 .1 .1 .0) (c .enum-told .given .1) (w .place-way .ensures)
+    let more = w .before .before .before .before .before .before .before .if1 .left in
+    let asked = sym (w .before .before .before .before .before .asks .ensures) ∙ not-false (w .before .before .before .before .before .asks .result) (w .before .before .before .before .if2 .left) in
+    P.first-full (a .n) (a .slots) (now (a .ranks)) (a .left) (a .at) (a .used) (now (a .table)) (now (a .scratch)) (start .pre .1 .0) more asked (w .place-way .result) (w .place-way .last .1 .1 .1 .1 .0) (w .place-way .last .1 .1 .1 .1 .1 .0) (c .enum-told .given .1) (w .place-way .ensures)
 
 place-state-place-way-requires-2 : (t : ℕ) → place-state-lts.Need-place-way-requires-2 (
   asks-reads.Asked,
@@ -159,14 +172,14 @@ place-state-place-way-requires-2 : (t : ℕ) → place-state-lts.Need-place-way-
   place-way.Post,
 ) (place-state-at t) place-state.Post
 place-state-place-way-requires-2 t c κs =
-    let w = c .before .before .before .before .before .before .before .before .before in
-    let start = w .before .before .before .before .before .before .before .before .before .before in
+    let w = c .before .before .before .before .before .before .before .before .before .before .before .before in
+    let start = w .before .before .before .before .before .before .before .before .before .before .before .before in
     let a = start .args in
-    let more = w .before .before .before .before .before .before .if1 .left in
-    let asked = sym (w .before .before .before .before .asks .ensures) ∙ not-false (w .before .before .before .before .asks .result) (w .before .before .before .if2 .left) in
-    let f = c .before .before .before .first .given in (
+    let more = w .before .before .before .before .before .before .before .if1 .left in
+    let asked = sym (w .before .before .before .before .before .asks .ensures) ∙ not-false (w .before .before .before .before .before .asks .result) (w .before .before .before .before .if2 .left) in
+    let f = c .before .before .before .before .first .given in (
       subst (λ (j : ℕ). 2 * (a .left - 1) + 1 < j) (start .pre .0) (P.way-less (a .left) more),
-      P.ready-second (a .n) (a .slots) (now (a .ranks)) (a .left) (a .at) (a .used) (now (a .table)) (now (a .scratch)) (start .pre .1) more asked (f .0 .0) (w .place-way .result) (w .place-way .last .1 .1 .1 .1 .0) (w .place-way .last .1 .1 .1 .1 .1 .0) (f .1) (w .place-way .ensures) (w .place-way .kept .1 .1 .1 .1 .0) (w .place-way .kept .1 .1 .1 .1 .1 .0),
+      (P.ready-second (a .n) (a .slots) (now (a .ranks)) (a .left) (a .at) (a .used) (now (a .table)) (now (a .scratch)) (start .pre .1 .0) more asked (f .0 .0) (w .place-way .result) (w .place-way .last .1 .1 .1 .1 .0) (w .place-way .last .1 .1 .1 .1 .1 .0) (f .1) (w .place-way .ensures) (w .place-way .kept .1 .1 .1 .1 .0) (w .place-way .kept .1 .1 .1 .1 .1 .0), roomy (a .n) _ _ (w .place-way .kept .1 .1 .1 .1 .1 .1 .0) (start .pre .1 .1)),
     )
 
 place-state-enum-known-second : (t : ℕ) → place-state-lts.Need-enum-known-second (
@@ -185,14 +198,6 @@ place-state-enum-told-2 : (t : ℕ) → place-state-lts.Need-enum-told-2 (
 ) (place-state-at t) place-state.Post
 place-state-enum-told-2 t c = search needs
 
-place-state-same-length-4 : (t : ℕ) → place-state-lts.Need-same-length-4 (
-  asks-reads.Asked,
-  asks-reads.Learnt,
-  place-way-below t,
-  place-way.Post,
-) (place-state-at t) place-state.Post
-place-state-same-length-4 t c = search needs
-
 place-state-same-length-5 : (t : ℕ) → place-state-lts.Need-same-length-5 (
   asks-reads.Asked,
   asks-reads.Learnt,
@@ -200,44 +205,6 @@ place-state-same-length-5 : (t : ℕ) → place-state-lts.Need-same-length-5 (
   place-way.Post,
 ) (place-state-at t) place-state.Post
 place-state-same-length-5 t c = search needs
-
-place-state-returns-4 : (t : ℕ) → place-state-lts.Need-returns-4 (
-  asks-reads.Asked,
-  asks-reads.Learnt,
-  place-way-below t,
-  place-way.Post,
-) (place-state-at t) place-state.Post
-place-state-returns-4 t c =
-    let v = c .before .before .before .before .before .before in
-    let w = v .before .before .before .before .before .before .before .before .before .before in
-    let start = w .before .before .before .before .before .before .before .before .before .before in
-    let a = start .args in
-    let more = w .before .before .before .before .before .before .if1 .left in
-    let asked = sym (w .before .before .before .before .asks .ensures) ∙ not-false (w .before .before .before .before .asks .result) (w .before .before .before .if2 .left) in
-    let f = v .before .before .before .before .first .given in
-    P.second-full (a .n) (a .slots) (now (a .ranks)) (a .left) (a .at) (a .used) (now (a .table)) (now (a .scratch)) (start .pre .1) more asked (f .0 .0) (w .place-way .result) (w .place-way .last .1 .1 .1 .1 .0) (w .place-way .last .1 .1 .1 .1 .1 .0) (f .1) (w .place-way .ensures)
-    (v .place-way2 .result) (v .place-way2 .last .1 .1 .1 .1 .0) (v .place-way2 .last .1 .1 .1 .1 .1 .0) (c .enum-told2 .given .1) (v .place-way2 .ensures)
-
-place-state-place-way-requires-3 : (t : ℕ) → place-state-lts.Need-place-way-requires-3 (
-  asks-reads.Asked,
-  asks-reads.Learnt,
-  place-way-below t,
-  place-way.Post,
-) (place-state-at t) place-state.Post
-place-state-place-way-requires-3 t c κs =
-    let v = c .before .before .before .before .before .before .before .before .before in
-    let w = v .before .before .before .before .before .before .before .before .before .before in
-    let start = w .before .before .before .before .before .before .before .before .before .before in
-    let a = start .args in
-    let more = w .before .before .before .before .before .before .if1 .left in
-    let asked = sym (w .before .before .before .before .asks .ensures) ∙ not-false (w .before .before .before .before .asks .result) (w .before .before .before .if2 .left) in
-    let f = v .before .before .before .before .first .given in
-    let g = c .before .before .before .second .given in (
-      subst (λ (j : ℕ). 2 * (a .left - 1) + 1 < j) (start .pre .0) (P.way-less (a .left) more),
-      P.ready-third (a .n) (a .slots) (now (a .ranks)) (a .left) (a .at) (a .used) (now (a .table)) (now (a .scratch)) (start .pre .1) more asked (f .0 .0) (w .place-way .result) (w .place-way .last .1 .1 .1 .1 .0) (w .place-way .last .1 .1 .1 .1 .1 .0) (f .1) (w .place-way .ensures)
-          (g .0 .0) (v .place-way2 .result) (v .place-way2 .last .1 .1 .1 .1 .0) (v .place-way2 .last .1 .1 .1 .1 .1 .0) (g .1) (v .place-way2 .ensures)
-          (v .place-way2 .kept .1 .1 .1 .1 .0 ∙ w .place-way .kept .1 .1 .1 .1 .0) (v .place-way2 .kept .1 .1 .1 .1 .1 .0 ∙ w .place-way .kept .1 .1 .1 .1 .1 .0),
-    )
 
 place-state-same-length-6 : (t : ℕ) → place-state-lts.Need-same-length-6 (
   asks-reads.Asked,
@@ -255,6 +222,71 @@ place-state-same-length-7 : (t : ℕ) → place-state-lts.Need-same-length-7 (
 ) (place-state-at t) place-state.Post
 place-state-same-length-7 t c = search needs
 
+place-state-returns-4 : (t : ℕ) → place-state-lts.Need-returns-4 (
+  asks-reads.Asked,
+  asks-reads.Learnt,
+  place-way-below t,
+  place-way.Post,
+) (place-state-at t) place-state.Post
+place-state-returns-4 t c =
+    let v = c .before .before .before .before .before .before .before .before in
+    let w = v .before .before .before .before .before .before .before .before .before .before .before .before .before in
+    let start = w .before .before .before .before .before .before .before .before .before .before .before .before in
+    let a = start .args in
+    let more = w .before .before .before .before .before .before .before .if1 .left in
+    let asked = sym (w .before .before .before .before .before .asks .ensures) ∙ not-false (w .before .before .before .before .before .asks .result) (w .before .before .before .before .if2 .left) in
+    let f = v .before .before .before .before .before .first .given in
+    P.second-full (a .n) (a .slots) (now (a .ranks)) (a .left) (a .at) (a .used) (now (a .table)) (now (a .scratch)) (start .pre .1 .0) more asked (f .0 .0) (w .place-way .result) (w .place-way .last .1 .1 .1 .1 .0) (w .place-way .last .1 .1 .1 .1 .1 .0) (f .1) (w .place-way .ensures)
+    (v .place-way2 .result) (v .place-way2 .last .1 .1 .1 .1 .0) (v .place-way2 .last .1 .1 .1 .1 .1 .0) (c .enum-told2 .given .1) (v .place-way2 .ensures)
+
+place-state-place-way-requires-3 : (t : ℕ) → place-state-lts.Need-place-way-requires-3 (
+  asks-reads.Asked,
+  asks-reads.Learnt,
+  place-way-below t,
+  place-way.Post,
+) (place-state-at t) place-state.Post
+place-state-place-way-requires-3 t c κs =
+    let v = c .before .before .before .before .before .before .before .before .before .before .before .before in
+    let w = v .before .before .before .before .before .before .before .before .before .before .before .before .before in
+    let start = w .before .before .before .before .before .before .before .before .before .before .before .before in
+    let a = start .args in
+    let more = w .before .before .before .before .before .before .before .if1 .left in
+    let asked = sym (w .before .before .before .before .before .asks .ensures) ∙ not-false (w .before .before .before .before .before .asks .result) (w .before .before .before .before .if2 .left) in
+    let f = v .before .before .before .before .before .first .given in
+    let g = c .before .before .before .before .second .given in (
+      subst (λ (j : ℕ). 2 * (a .left - 1) + 1 < j) (start .pre .0) (P.way-less (a .left) more),
+      (
+        P.ready-third (a .n) (a .slots) (now (a .ranks)) (a .left) (a .at) (a .used) (now (a .table)) (now (a .scratch)) (start .pre .1 .0) more asked (f .0 .0) (w .place-way .result) (w .place-way .last .1 .1 .1 .1 .0) (w .place-way .last .1 .1 .1 .1 .1 .0) (f .1) (w .place-way .ensures)
+            (g .0 .0) (v .place-way2 .result) (v .place-way2 .last .1 .1 .1 .1 .0) (v .place-way2 .last .1 .1 .1 .1 .1 .0) (g .1) (v .place-way2 .ensures)
+            (v .place-way2 .kept .1 .1 .1 .1 .0 ∙ w .place-way .kept .1 .1 .1 .1 .0) (v .place-way2 .kept .1 .1 .1 .1 .1 .0 ∙ w .place-way .kept .1 .1 .1 .1 .1 .0),
+        roomy (a .n) _ _ (v .place-way2 .kept .1 .1 .1 .1 .1 .1 .0 ∙ w .place-way .kept .1 .1 .1 .1 .1 .1 .0) (start .pre .1 .1),
+      ),
+    )
+
+place-state-same-length-8 : (t : ℕ) → place-state-lts.Need-same-length-8 (
+  asks-reads.Asked,
+  asks-reads.Learnt,
+  place-way-below t,
+  place-way.Post,
+) (place-state-at t) place-state.Post
+place-state-same-length-8 t c = search needs
+
+place-state-same-length-9 : (t : ℕ) → place-state-lts.Need-same-length-9 (
+  asks-reads.Asked,
+  asks-reads.Learnt,
+  place-way-below t,
+  place-way.Post,
+) (place-state-at t) place-state.Post
+place-state-same-length-9 t c = search needs
+
+place-state-same-length-10 : (t : ℕ) → place-state-lts.Need-same-length-10 (
+  asks-reads.Asked,
+  asks-reads.Learnt,
+  place-way-below t,
+  place-way.Post,
+) (place-state-at t) place-state.Post
+place-state-same-length-10 t c = search needs
+
 place-state-returns-5 : (t : ℕ) → place-state-lts.Need-returns-5 (
   asks-reads.Asked,
   asks-reads.Learnt,
@@ -262,16 +294,16 @@ place-state-returns-5 : (t : ℕ) → place-state-lts.Need-returns-5 (
   place-way.Post,
 ) (place-state-at t) place-state.Post
 place-state-returns-5 t c =
-    let x = c .before .before .before .before in
-    let v = x .before .before .before .before .before .before .before .before .before .before in
-    let w = v .before .before .before .before .before .before .before .before .before .before in
-    let start = w .before .before .before .before .before .before .before .before .before .before in
+    let x = c .before .before .before .before .before .before in
+    let v = x .before .before .before .before .before .before .before .before .before .before .before .before .before in
+    let w = v .before .before .before .before .before .before .before .before .before .before .before .before .before in
+    let start = w .before .before .before .before .before .before .before .before .before .before .before .before in
     let a = start .args in
-    let more = w .before .before .before .before .before .before .if1 .left in
-    let asked = sym (w .before .before .before .before .asks .ensures) ∙ not-false (w .before .before .before .before .asks .result) (w .before .before .before .if2 .left) in
-    let f = v .before .before .before .before .first .given in
-    let g = x .before .before .before .before .second .given in
-    P.third (a .n) (a .slots) (now (a .ranks)) (a .left) (a .at) (a .used) (now (a .table)) (now (a .scratch)) (start .pre .1) more asked (f .0 .0) (w .place-way .result) (w .place-way .last .1 .1 .1 .1 .0) (w .place-way .last .1 .1 .1 .1 .1 .0) (f .1) (w .place-way .ensures)
+    let more = w .before .before .before .before .before .before .before .if1 .left in
+    let asked = sym (w .before .before .before .before .before .asks .ensures) ∙ not-false (w .before .before .before .before .before .asks .result) (w .before .before .before .before .if2 .left) in
+    let f = v .before .before .before .before .before .first .given in
+    let g = x .before .before .before .before .before .second .given in
+    P.third (a .n) (a .slots) (now (a .ranks)) (a .left) (a .at) (a .used) (now (a .table)) (now (a .scratch)) (start .pre .1 .0) more asked (f .0 .0) (w .place-way .result) (w .place-way .last .1 .1 .1 .1 .0) (w .place-way .last .1 .1 .1 .1 .1 .0) (f .1) (w .place-way .ensures)
     (g .0 .0) (v .place-way2 .result) (v .place-way2 .last .1 .1 .1 .1 .0) (v .place-way2 .last .1 .1 .1 .1 .1 .0) (g .1) (v .place-way2 .ensures)
     (x .place-way3 .result) (x .place-way3 .last .1 .1 .1 .1 .0) (x .place-way3 .last .1 .1 .1 .1 .1 .0) (x .place-way3 .ensures)
 
@@ -304,9 +336,9 @@ place-way-add-word : (t : ℕ) → place-way-lts.Need-add-word (
   place-state.Post,
 ) (place-way-at t) place-way.Post
 place-way-add-word t c =
-    let start = c .before .before .before .before in
+    let start = c .before .before .before .before .before in
     let a = start .args in
-    omega (arith, P.word-within (a .n) (a .slots) (now (a .ranks)) (a .at) (a .used) (c .next-word .result) (a .o) (now (a .table)) (now (a .scratch)) (start .pre .1) (c .next-word .ensures), start .good .1 .1 .1 .1 .0 .1)
+    omega (arith, P.word-within (a .n) (a .slots) (now (a .ranks)) (a .at) (a .used) (c .next-word .result) (a .o) (now (a .table)) (now (a .scratch)) (start .pre .1 .0) (c .next-word .ensures), start .good .1 .1 .1 .1 .0 .1)
 
 place-way-meet-requires : (t : ℕ) → place-way-lts.Need-meet-requires (
   next-word-reads.Asked,
@@ -317,7 +349,7 @@ place-way-meet-requires : (t : ℕ) → place-way-lts.Need-meet-requires (
   place-state.Post,
 ) (place-way-at t) place-way.Post
 place-way-meet-requires t c κs =
-    c .before .before .before .before .before .before .pre .1
+    c .before .before .before .before .before .before .before .before .pre .1
 
 place-way-enum-known-number : (t : ℕ) → place-way-lts.Need-enum-known-number (
   next-word-reads.Asked,
@@ -338,12 +370,12 @@ place-way-cast-table : (t : ℕ) → place-way-lts.Need-cast-table (
   place-state.Post,
 ) (place-way-at t) place-way.Post
 place-way-cast-table t c =
-    let w = c .before .before .before .before .before .before .before in
-    let start = w .before .before .before .before .before .before .before in
+    let w = c .before .before .before .before .before .before .before .before .before in
+    let start = w .before .before .before .before .before .before .before .before .before in
     let a = start .args in
-    let nw = w .before .before .before .next-word in
+    let nw = w .before .before .before .before .next-word in
     let i = c .before .number .given in
-    omega (arith, P.old-below (a .n) (a .slots) (now (a .ranks)) (a .left) (a .at) (a .used) (a .o) (now (a .table)) (now (a .scratch)) (start .pre .1) (i .0 .0) (w .meet .result) (w .meet .last .1 .1 .1 .0) (w .meet .last .1 .1 .1 .1 .0) (i .1) (w .meet .ensures), start .pre .1 .within, start .pre .1 .few)
+    omega (arith, P.old-below (a .n) (a .slots) (now (a .ranks)) (a .left) (a .at) (a .used) (a .o) (now (a .table)) (now (a .scratch)) (start .pre .1 .0) (i .0 .0) (w .meet .result) (w .meet .last .1 .1 .1 .0) (w .meet .last .1 .1 .1 .1 .0) (i .1) (w .meet .ensures), start .pre .1 .0 .within, start .pre .1 .0 .few)
 
 place-way-mul-table : (t : ℕ) → place-way-lts.Need-mul-table (
   next-word-reads.Asked,
@@ -354,11 +386,11 @@ place-way-mul-table : (t : ℕ) → place-way-lts.Need-mul-table (
   place-state.Post,
 ) (place-way-at t) place-way.Post
 place-way-mul-table t c =
-    let w = c .before .before .before .before .before .before .before in
-    let start = w .before .before .before .before .before .before .before in
+    let w = c .before .before .before .before .before .before .before .before .before in
+    let start = w .before .before .before .before .before .before .before .before .before in
     let a = start .args in
-    let nw = w .before .before .before .next-word in
-    omega (arith, P.word-within (a .n) (a .slots) (now (a .ranks)) (a .at) (a .used) (nw .result) (a .o) (now (a .table)) (now (a .scratch)) (start .pre .1) (nw .ensures), start .good .1 .1 .1 .1 .0 .1)
+    let nw = w .before .before .before .before .next-word in
+    omega (arith, P.word-within (a .n) (a .slots) (now (a .ranks)) (a .at) (a .used) (nw .result) (a .o) (now (a .table)) (now (a .scratch)) (start .pre .1 .0) (nw .ensures), start .good .1 .1 .1 .1 .0 .1)
 
 place-way-slice-write-table : (t : ℕ) → place-way-lts.Need-slice-write-table (
   next-word-reads.Asked,
@@ -369,11 +401,11 @@ place-way-slice-write-table : (t : ℕ) → place-way-lts.Need-slice-write-table
   place-state.Post,
 ) (place-way-at t) place-way.Post
 place-way-slice-write-table t c =
-    let w = c .before .before .before .before .before .before .before in
-    let start = w .before .before .before .before .before .before .before in
+    let w = c .before .before .before .before .before .before .before .before .before in
+    let start = w .before .before .before .before .before .before .before .before .before in
     let a = start .args in
-    let nw = w .before .before .before .next-word in
-    subst (λ (k : ℕ). recordWords * a .at + nw .result < k) (sym (w .meet .kept .1 .1 .1 .0)) (P.word-within (a .n) (a .slots) (now (a .ranks)) (a .at) (a .used) (nw .result) (a .o) (now (a .table)) (now (a .scratch)) (start .pre .1) (nw .ensures))
+    let nw = w .before .before .before .before .next-word in
+    subst (λ (k : ℕ). recordWords * a .at + nw .result < k) (sym (w .meet .kept .1 .1 .1 .0)) (P.word-within (a .n) (a .slots) (now (a .ranks)) (a .at) (a .used) (nw .result) (a .o) (now (a .table)) (now (a .scratch)) (start .pre .1 .0) (nw .ensures))
 
 place-way-enum-told : (t : ℕ) → place-way-lts.Need-enum-told (
   next-word-reads.Asked,
@@ -414,16 +446,16 @@ place-way-place-state-requires : (t : ℕ) → place-way-lts.Need-place-state-re
   place-state.Post,
 ) (place-way-at t) place-way.Post
 place-way-place-state-requires t c κs =
-    let w = c .before .before .before .before .before .before .before .before in
-    let start = w .before .before .before .before .before .before .before in
+    let w = c .before .before .before .before .before .before .before .before .before .before .before in
+    let start = w .before .before .before .before .before .before .before .before .before in
     let a = start .args in
-    let nw = w .before .before .before .next-word in
-    let e = c .before .before .enum-told2 in (
+    let nw = w .before .before .before .before .next-word in
+    let e = c .before .before .before .enum-told2 in (
       subst (λ (j : ℕ). 2 * a .left < j) (start .pre .0) (P.state-less (a .left)),
-      P.ready-new (a .n) (a .slots) (now (a .ranks)) (a .left) (a .at) (a .used) (a .o) (now (a .table)) (now (a .scratch)) (start .pre .1) (w .meet .result) (w .meet .last .1 .1 .1 .0) (w .meet .last .1 .1 .1 .1 .0) (e .given .1) (w .meet .ensures) (w .meet .kept .1 .1 .1 .0) (w .meet .kept .1 .1 .1 .1 .0),
+      (P.ready-new (a .n) (a .slots) (now (a .ranks)) (a .left) (a .at) (a .used) (a .o) (now (a .table)) (now (a .scratch)) (start .pre .1 .0) (w .meet .result) (w .meet .last .1 .1 .1 .0) (w .meet .last .1 .1 .1 .1 .0) (e .given .1) (w .meet .ensures) (w .meet .kept .1 .1 .1 .0) (w .meet .kept .1 .1 .1 .1 .0), roomy (a .n) _ _ (w .meet .kept .1 .1 .1 .1 .1 .0) (start .pre .1 .1)),
     )
 
-place-way-enum-known-now : (t : ℕ) → place-way-lts.Need-enum-known-now (
+place-way-enum-known-placed : (t : ℕ) → place-way-lts.Need-enum-known-placed (
   next-word-reads.Asked,
   next-word-reads.Learnt,
   meet-reads.Asked,
@@ -431,7 +463,7 @@ place-way-enum-known-now : (t : ℕ) → place-way-lts.Need-enum-known-now (
   place-state-below t,
   place-state.Post,
 ) (place-way-at t) place-way.Post
-place-way-enum-known-now t c = search needs
+place-way-enum-known-placed t c = search needs
 
 place-way-enum-told-3 : (t : ℕ) → place-way-lts.Need-enum-told-3 (
   next-word-reads.Asked,
@@ -463,67 +495,6 @@ place-way-same-length-2 : (t : ℕ) → place-way-lts.Need-same-length-2 (
 ) (place-way-at t) place-way.Post
 place-way-same-length-2 t c = search needs
 
-place-way-returns : (t : ℕ) → place-way-lts.Need-returns (
-  next-word-reads.Asked,
-  next-word-reads.Learnt,
-  meet-reads.Asked,
-  meet-reads.Learnt,
-  place-state-below t,
-  place-state.Post,
-) (place-way-at t) place-way.Post
-place-way-returns t c =
-    let v = c .before .before .before .before .before .before in
-    let w = v .before .before .before .before .before .before .before .before .before in
-    let start = w .before .before .before .before .before .before .before in
-    let a = start .args in
-    let nw = w .before .before .before .next-word in
-    let e = v .before .before .before .enum-told2 in
-    P.placed-new-full (a .n) (a .slots) (now (a .ranks)) (a .left) (a .at) (a .used) (a .o) (now (a .table)) (now (a .scratch)) (start .pre .1) (w .meet .result) (w .meet .last .1 .1 .1 .0) (w .meet .last .1 .1 .1 .1 .0) (e .given .1) (w .meet .ensures) (v .place-state .result) (v .place-state .last .1 .1 .1 .1 .0) (v .place-state .last .1 .1 .1 .1 .1 .0) (c .enum-told3 .given .1) (v .place-state .ensures)
-
-place-way-cast-table-2 : (t : ℕ) → place-way-lts.Need-cast-table-2 (
-  next-word-reads.Asked,
-  next-word-reads.Learnt,
-  meet-reads.Asked,
-  meet-reads.Learnt,
-  place-state-below t,
-  place-state.Post,
-) (place-way-at t) place-way.Post
-place-way-cast-table-2 t c = search needs
-
-place-way-mul-table-2 : (t : ℕ) → place-way-lts.Need-mul-table-2 (
-  next-word-reads.Asked,
-  next-word-reads.Learnt,
-  meet-reads.Asked,
-  meet-reads.Learnt,
-  place-state-below t,
-  place-state.Post,
-) (place-way-at t) place-way.Post
-place-way-mul-table-2 t c =
-    let v = c .before .before .before .before .before .before .before in
-    let w = v .before .before .before .before .before .before .before .before .before in
-    let start = w .before .before .before .before .before .before .before in
-    let a = start .args in
-    let nw = w .before .before .before .next-word in
-    let e = v .before .before .before .enum-told2 in
-    omega (arith, P.word-within (a .n) (a .slots) (now (a .ranks)) (a .at) (a .used) (nw .result) (a .o) (now (a .table)) (now (a .scratch)) (start .pre .1) (nw .ensures), start .good .1 .1 .1 .1 .0 .1)
-
-place-way-slice-write-table-2 : (t : ℕ) → place-way-lts.Need-slice-write-table-2 (
-  next-word-reads.Asked,
-  next-word-reads.Learnt,
-  meet-reads.Asked,
-  meet-reads.Learnt,
-  place-state-below t,
-  place-state.Post,
-) (place-way-at t) place-way.Post
-place-way-slice-write-table-2 t c =
-    let v = c .before .before .before .before .before .before .before in
-    let w = v .before .before .before .before .before .before .before .before .before in
-    let start = w .before .before .before .before .before .before .before in
-    let a = start .args in
-    let nw = w .before .before .before .next-word in
-    let e = v .before .before .before .enum-told2 in
-    subst (λ (k : ℕ). recordWords * a .at + nw .result < k) (sym (v .place-state .kept .1 .1 .1 .1 .0 ∙ w .meet .kept .1 .1 .1 .0)) (P.word-within (a .n) (a .slots) (now (a .ranks)) (a .at) (a .used) (nw .result) (a .o) (now (a .table)) (now (a .scratch)) (start .pre .1) (nw .ensures))
-
 place-way-same-length-3 : (t : ℕ) → place-way-lts.Need-same-length-3 (
   next-word-reads.Asked,
   next-word-reads.Learnt,
@@ -534,6 +505,69 @@ place-way-same-length-3 : (t : ℕ) → place-way-lts.Need-same-length-3 (
 ) (place-way-at t) place-way.Post
 place-way-same-length-3 t c = search needs
 
+place-way-returns : (t : ℕ) → place-way-lts.Need-returns (
+  next-word-reads.Asked,
+  next-word-reads.Learnt,
+  meet-reads.Asked,
+  meet-reads.Learnt,
+  place-state-below t,
+  place-state.Post,
+) (place-way-at t) place-way.Post
+place-way-returns t c =
+    let v = c .before .before .before .before .before .before .before .before in
+    let w = v .before .before .before .before .before .before .before .before .before .before .before .before in
+    let start = w .before .before .before .before .before .before .before .before .before in
+    let a = start .args in
+    let nw = w .before .before .before .before .next-word in
+    let e = v .before .before .before .before .enum-told2 in
+    P.placed-new-full (a .n) (a .slots) (now (a .ranks)) (a .left) (a .at) (a .used) (a .o) (now (a .table)) (now (a .scratch)) (start .pre .1 .0) (w .meet .result) (w .meet .last .1 .1 .1 .0) (w .meet .last .1 .1 .1 .1 .0) (e .given .1) (w .meet .ensures) (v .place-state .result) (v .place-state .last .1 .1 .1 .1 .0) (v .place-state .last .1 .1 .1 .1 .1 .0) (c .enum-told3 .given .1) (v .place-state .ensures)
+
+place-way-cast-table-2 : (t : ℕ) → place-way-lts.Need-cast-table-2 (
+  next-word-reads.Asked,
+  next-word-reads.Learnt,
+  meet-reads.Asked,
+  meet-reads.Learnt,
+  place-state-below t,
+  place-state.Post,
+) (place-way-at t) place-way.Post
+place-way-cast-table-2 t c =
+    let v = c .before .before .before .before .before .before .before .before .before in
+    let w = v .before .before .before .before .before .before .before .before .before .before .before .before in
+    let start = w .before .before .before .before .before .before .before .before .before in
+    omega (arith, start .pre .1 .0 .within, start .pre .1 .0 .few)
+
+place-way-mul-table-2 : (t : ℕ) → place-way-lts.Need-mul-table-2 (
+  next-word-reads.Asked,
+  next-word-reads.Learnt,
+  meet-reads.Asked,
+  meet-reads.Learnt,
+  place-state-below t,
+  place-state.Post,
+) (place-way-at t) place-way.Post
+place-way-mul-table-2 t c =
+    let v = c .before .before .before .before .before .before .before .before .before in
+    let w = v .before .before .before .before .before .before .before .before .before .before .before .before in
+    let start = w .before .before .before .before .before .before .before .before .before in
+    let a = start .args in
+    let nw = w .before .before .before .before .next-word in
+    omega (arith, P.word-within (a .n) (a .slots) (now (a .ranks)) (a .at) (a .used) (nw .result) (a .o) (now (a .table)) (now (a .scratch)) (start .pre .1 .0) (nw .ensures), start .good .1 .1 .1 .1 .0 .1)
+
+place-way-slice-write-table-2 : (t : ℕ) → place-way-lts.Need-slice-write-table-2 (
+  next-word-reads.Asked,
+  next-word-reads.Learnt,
+  meet-reads.Asked,
+  meet-reads.Learnt,
+  place-state-below t,
+  place-state.Post,
+) (place-way-at t) place-way.Post
+place-way-slice-write-table-2 t c =
+    let v = c .before .before .before .before .before .before .before .before .before in
+    let w = v .before .before .before .before .before .before .before .before .before .before .before .before in
+    let start = w .before .before .before .before .before .before .before .before .before in
+    let a = start .args in
+    let nw = w .before .before .before .before .next-word in
+    subst (λ (k : ℕ). recordWords * a .at + nw .result < k) (sym (v .place-state .kept .1 .1 .1 .1 .0 ∙ w .meet .kept .1 .1 .1 .0)) (P.word-within (a .n) (a .slots) (now (a .ranks)) (a .at) (a .used) (nw .result) (a .o) (now (a .table)) (now (a .scratch)) (start .pre .1 .0) (nw .ensures))
+
 place-way-same-length-4 : (t : ℕ) → place-way-lts.Need-same-length-4 (
   next-word-reads.Asked,
   next-word-reads.Learnt,
@@ -543,22 +577,6 @@ place-way-same-length-4 : (t : ℕ) → place-way-lts.Need-same-length-4 (
   place-state.Post,
 ) (place-way-at t) place-way.Post
 place-way-same-length-4 t c = search needs
-
-place-way-returns-2 : (t : ℕ) → place-way-lts.Need-returns-2 (
-  next-word-reads.Asked,
-  next-word-reads.Learnt,
-  meet-reads.Asked,
-  meet-reads.Learnt,
-  place-state-below t,
-  place-state.Post,
-) (place-way-at t) place-way.Post
-place-way-returns-2 t c =
-    let w = c .before .before .before .before .before .before .before in
-    let start = w .before .before .before .before .before .before .before in
-    let a = start .args in
-    let nw = w .before .before .before .next-word in
-    let i = c .before .number .given in
-    P.placed-old (a .n) (a .slots) (now (a .ranks)) (a .left) (a .at) (a .used) (a .o) (now (a .table)) (now (a .scratch)) (start .pre .1) (nw .result) (i .0 .0) (w .meet .result) (w .meet .last .1 .1 .1 .0) (w .meet .last .1 .1 .1 .1 .0) (nw .ensures) (i .1) (w .meet .ensures)
 
 place-way-same-length-5 : (t : ℕ) → place-way-lts.Need-same-length-5 (
   next-word-reads.Asked,
@@ -580,7 +598,7 @@ place-way-same-length-6 : (t : ℕ) → place-way-lts.Need-same-length-6 (
 ) (place-way-at t) place-way.Post
 place-way-same-length-6 t c = search needs
 
-place-way-returns-3 : (t : ℕ) → place-way-lts.Need-returns-3 (
+place-way-returns-2 : (t : ℕ) → place-way-lts.Need-returns-2 (
   next-word-reads.Asked,
   next-word-reads.Learnt,
   meet-reads.Asked,
@@ -588,12 +606,13 @@ place-way-returns-3 : (t : ℕ) → place-way-lts.Need-returns-3 (
   place-state-below t,
   place-state.Post,
 ) (place-way-at t) place-way.Post
-place-way-returns-3 t c =
-    let w = c .before .before .before .before .before .before in
-    let start = w .before .before .before .before .before .before .before in
+place-way-returns-2 t c =
+    let w = c .before .before .before .before .before .before .before .before .before in
+    let start = w .before .before .before .before .before .before .before .before .before in
     let a = start .args in
-    let nw = w .before .before .before .next-word in
-    P.placed-slotless (a .n) (a .slots) (now (a .ranks)) (a .left) (a .at) (a .used) (a .o) (now (a .table)) (now (a .scratch)) (start .pre .1) (w .meet .result) (w .meet .last .1 .1 .1 .0) (w .meet .last .1 .1 .1 .1 .0) (c .enum-told .given .1) (w .meet .ensures)
+    let nw = w .before .before .before .before .next-word in
+    let i = c .before .number .given in
+    P.placed-old (a .n) (a .slots) (now (a .ranks)) (a .left) (a .at) (a .used) (a .o) (now (a .table)) (now (a .scratch)) (start .pre .1 .0) (nw .result) (i .0 .0) (w .meet .result) (w .meet .last .1 .1 .1 .0) (w .meet .last .1 .1 .1 .1 .0) (nw .ensures) (i .1) (w .meet .ensures)
 
 place-way-same-length-7 : (t : ℕ) → place-way-lts.Need-same-length-7 (
   next-word-reads.Asked,
@@ -603,14 +622,7 @@ place-way-same-length-7 : (t : ℕ) → place-way-lts.Need-same-length-7 (
   place-state-below t,
   place-state.Post,
 ) (place-way-at t) place-way.Post
-place-way-same-length-7 t c =
-    let v = c .before .before .before .before .before .before .before in
-    let w = v .before .before .before .before .before .before .before .before .before in
-    let start = w .before .before .before .before .before .before .before in
-    let a = start .args in
-    let nw = w .before .before .before .next-word in
-    let e = v .before .before .before .enum-told2 in
-    length-set (v .place-state .last .1 .1 .1 .1 .0) (recordWords * a .at + nw .result) (a .used) ∙ v .place-state .kept .1 .1 .1 .1 .0 ∙ w .meet .kept .1 .1 .1 .0
+place-way-same-length-7 t c = search needs
 
 place-way-same-length-8 : (t : ℕ) → place-way-lts.Need-same-length-8 (
   next-word-reads.Asked,
@@ -622,6 +634,67 @@ place-way-same-length-8 : (t : ℕ) → place-way-lts.Need-same-length-8 (
 ) (place-way-at t) place-way.Post
 place-way-same-length-8 t c = search needs
 
+place-way-same-length-9 : (t : ℕ) → place-way-lts.Need-same-length-9 (
+  next-word-reads.Asked,
+  next-word-reads.Learnt,
+  meet-reads.Asked,
+  meet-reads.Learnt,
+  place-state-below t,
+  place-state.Post,
+) (place-way-at t) place-way.Post
+place-way-same-length-9 t c = search needs
+
+place-way-returns-3 : (t : ℕ) → place-way-lts.Need-returns-3 (
+  next-word-reads.Asked,
+  next-word-reads.Learnt,
+  meet-reads.Asked,
+  meet-reads.Learnt,
+  place-state-below t,
+  place-state.Post,
+) (place-way-at t) place-way.Post
+place-way-returns-3 t c =
+    let w = c .before .before .before .before .before .before .before .before in
+    let start = w .before .before .before .before .before .before .before .before .before in
+    let a = start .args in
+    let nw = w .before .before .before .before .next-word in
+    P.placed-slotless (a .n) (a .slots) (now (a .ranks)) (a .left) (a .at) (a .used) (a .o) (now (a .table)) (now (a .scratch)) (start .pre .1 .0) (w .meet .result) (w .meet .last .1 .1 .1 .0) (w .meet .last .1 .1 .1 .1 .0) (c .enum-told .given .1) (w .meet .ensures)
+
+place-way-same-length-10 : (t : ℕ) → place-way-lts.Need-same-length-10 (
+  next-word-reads.Asked,
+  next-word-reads.Learnt,
+  meet-reads.Asked,
+  meet-reads.Learnt,
+  place-state-below t,
+  place-state.Post,
+) (place-way-at t) place-way.Post
+place-way-same-length-10 t c =
+    let v = c .before .before .before .before .before .before .before .before .before in
+    let w = v .before .before .before .before .before .before .before .before .before .before .before .before in
+    let start = w .before .before .before .before .before .before .before .before .before in
+    let a = start .args in
+    let nw = w .before .before .before .before .next-word in
+    length-set (v .place-state .last .1 .1 .1 .1 .0) (recordWords * a .at + nw .result) (a .used) ∙ v .place-state .kept .1 .1 .1 .1 .0 ∙ w .meet .kept .1 .1 .1 .0
+
+place-way-same-length-11 : (t : ℕ) → place-way-lts.Need-same-length-11 (
+  next-word-reads.Asked,
+  next-word-reads.Learnt,
+  meet-reads.Asked,
+  meet-reads.Learnt,
+  place-state-below t,
+  place-state.Post,
+) (place-way-at t) place-way.Post
+place-way-same-length-11 t c = search needs
+
+place-way-same-length-12 : (t : ℕ) → place-way-lts.Need-same-length-12 (
+  next-word-reads.Asked,
+  next-word-reads.Learnt,
+  meet-reads.Asked,
+  meet-reads.Learnt,
+  place-state-below t,
+  place-state.Post,
+) (place-way-at t) place-way.Post
+place-way-same-length-12 t c = search needs
+
 place-way-returns-4 : (t : ℕ) → place-way-lts.Need-returns-4 (
   next-word-reads.Asked,
   next-word-reads.Learnt,
@@ -631,14 +704,14 @@ place-way-returns-4 : (t : ℕ) → place-way-lts.Need-returns-4 (
   place-state.Post,
 ) (place-way-at t) place-way.Post
 place-way-returns-4 t c =
-    let v = c .before .before .before .before .before .before .before in
-    let w = v .before .before .before .before .before .before .before .before .before in
-    let start = w .before .before .before .before .before .before .before in
+    let v = c .before .before .before .before .before .before .before .before .before in
+    let w = v .before .before .before .before .before .before .before .before .before .before .before .before in
+    let start = w .before .before .before .before .before .before .before .before .before in
     let a = start .args in
-    let nw = w .before .before .before .next-word in
-    let e = v .before .before .before .enum-told2 in
-    let u = c .before .now .given in
-    P.placed-new (a .n) (a .slots) (now (a .ranks)) (a .left) (a .at) (a .used) (a .o) (now (a .table)) (now (a .scratch)) (start .pre .1) (w .meet .result) (w .meet .last .1 .1 .1 .0) (w .meet .last .1 .1 .1 .1 .0) (e .given .1) (w .meet .ensures) (nw .result) (u .0 .0) (v .place-state .result) (v .place-state .last .1 .1 .1 .1 .0) (v .place-state .last .1 .1 .1 .1 .1 .0) (nw .ensures) (u .1) (v .place-state .ensures)
+    let nw = w .before .before .before .before .next-word in
+    let e = v .before .before .before .before .enum-told2 in
+    let u = c .before .placed .given in
+    P.placed-new (a .n) (a .slots) (now (a .ranks)) (a .left) (a .at) (a .used) (a .o) (now (a .table)) (now (a .scratch)) (start .pre .1 .0) (w .meet .result) (w .meet .last .1 .1 .1 .0) (w .meet .last .1 .1 .1 .1 .0) (e .given .1) (w .meet .ensures) (nw .result) (u .0 .0) (v .place-state .result) (v .place-state .last .1 .1 .1 .1 .0) (v .place-state .last .1 .1 .1 .1 .1 .0) (nw .ensures) (u .1) (v .place-state .ensures)
 
 pub +place-state+place-way-spec : {M : Type 1} → statement M
 +place-state+place-way-spec = close μ-place-state μ-place-way (λ t. place-state-lts.spec (
@@ -659,16 +732,19 @@ pub +place-state+place-way-spec : {M : Type 1} → statement M
     (place-state-enum-told t)
     (place-state-same-length-2 t)
     (place-state-same-length-3 t)
+    (place-state-same-length-4 t)
     (place-state-returns-3 t)
     (place-state-place-way-requires-2 t)
     (place-state-enum-known-second t)
     (place-state-enum-told-2 t)
-    (place-state-same-length-4 t)
     (place-state-same-length-5 t)
-    (place-state-returns-4 t)
-    (place-state-place-way-requires-3 t)
     (place-state-same-length-6 t)
     (place-state-same-length-7 t)
+    (place-state-returns-4 t)
+    (place-state-place-way-requires-3 t)
+    (place-state-same-length-8 t)
+    (place-state-same-length-9 t)
+    (place-state-same-length-10 t)
     (place-state-returns-5 t))
     λ t. place-way-lts.spec (
       next-word-reads.Asked,
@@ -692,20 +768,24 @@ pub +place-state+place-way-spec : {M : Type 1} → statement M
     (place-way-enum-told-2 t)
     (place-way-add-place-state t)
     (place-way-place-state-requires t)
-    (place-way-enum-known-now t)
+    (place-way-enum-known-placed t)
     (place-way-enum-told-3 t)
     (place-way-same-length t)
     (place-way-same-length-2 t)
+    (place-way-same-length-3 t)
     (place-way-returns t)
     (place-way-cast-table-2 t)
     (place-way-mul-table-2 t)
     (place-way-slice-write-table-2 t)
-    (place-way-same-length-3 t)
     (place-way-same-length-4 t)
-    (place-way-returns-2 t)
     (place-way-same-length-5 t)
     (place-way-same-length-6 t)
-    (place-way-returns-3 t)
+    (place-way-returns-2 t)
     (place-way-same-length-7 t)
     (place-way-same-length-8 t)
+    (place-way-same-length-9 t)
+    (place-way-returns-3 t)
+    (place-way-same-length-10 t)
+    (place-way-same-length-11 t)
+    (place-way-same-length-12 t)
     (place-way-returns-4 t)

@@ -1,12 +1,13 @@
--- `builder::start::place_start` meets its contract: the start's words are made in front of an array and stored as state 0, and its ways are placed.
+-- `builder::start::place_start` meets its contract: the start's words are made in front of an array and stored as state 0, and its ways are placed with the array as room.
 -- Assumes nothing.
-use Prim.Native.Nat.{ℕ, _<_, _≤_}
-use mathlib.Core.Path.{_≡_, refl, sym, _∙_, subst}
+use Prim.Native.Nat.{ℕ, _<_, _*_}
+use mathlib.Core.Path.{_≡_, sym, _∙_, subst}
 use mathlib.Core.List.{List}
 use native.Mathlib.Omega.{arith}
 use lib.ListN.{replicate, length}
+use lib.Seq.{length-front}
 use denote.Ref.{now}
-use Rattle.lists.specs.Filters.{maxFilters}
+use Rattle.slots.specs.Words.{filterSlot}
 use Rattle.slots.specs.Slots.{startWords}
 use Rattle.builder.specs.Promises.{Stored}
 use Rattle.builder.specs.Starting as S
@@ -16,7 +17,7 @@ use borrow.Author.Needs.{needs}
 use Rattle.builder.proofs.start.place_start.Statement.{statement}
 use Rattle.builder.proofs.start.place_start.Tie as tie
 
--- The array that the start is made in.
+-- The array that the start, and then every state, is made in.
 abbrev words : List ℕ
 words = replicate 1024 0
 
@@ -45,48 +46,54 @@ slice-aggregate-start-into : tie.Need-slice-aggregate-start-into
 slice-aggregate-start-into c =
     let s = c .before .before .before .before .before .before in
     let a = s .args in
-    front-long (a .n) words (A.start-few (a .n) (a .slots) (a .tests) (now (a .ranks)) (now (a .list)) (now (a .table)) (now (a .scratch)) (s .pre)) refl
+    front-long (a .n) words (A.start-roomy (a .n) (a .slots) (a .tests) (now (a .ranks)) (now (a .list)) (now (a .table)) (now (a .scratch)) (s .pre))
 
 start-into-requires : tie.Need-start-into-requires
 start-into-requires c κs =
     let s = c .before .before .before .before .before .before in
     let a = s .args in
-    let few : a .n ≤ maxFilters = A.start-few (a .n) (a .slots) (a .tests) (now (a .ranks)) (now (a .list)) (now (a .table)) (now (a .scratch)) (s .pre) in
+    let roomy = A.start-roomy (a .n) (a .slots) (a .tests) (now (a .ranks)) (now (a .list)) (now (a .table)) (now (a .scratch)) (s .pre) in
     let ranked = s .pre .ranked in
-    (A.start-asks (a .n) (a .slots) (a .tests) (now (a .ranks)) (now (a .list)) (now (a .table)) (now (a .scratch)) (s .pre) _ (sym (front-long (a .n) words few refl)), omega arith)
+    (A.start-asks (a .n) (a .slots) (a .tests) (now (a .ranks)) (now (a .list)) (now (a .table)) (now (a .scratch)) (s .pre) _ (sym (front-long (a .n) words roomy)), omega arith)
 
 array-share-prefix-words : tie.Need-array-share-prefix-words
 array-share-prefix-words c =
     let p = c .before .before .before in
     let s = p .before .before .before .before .before .before .before in
     let a = s .args in
-    let few : a .n ≤ maxFilters = A.start-few (a .n) (a .slots) (a .tests) (now (a .ranks)) (now (a .list)) (now (a .table)) (now (a .scratch)) (s .pre) in
-    front-fits (a .n) words few refl (p .start-into .last .1 .0) (p .start-into .kept .1 .0)
+    let roomy = A.start-roomy (a .n) (a .slots) (a .tests) (now (a .ranks)) (now (a .list)) (now (a .table)) (now (a .scratch)) (s .pre) in
+    front-fits (a .n) words roomy (p .start-into .last .1 .0) (p .start-into .kept .1 .0)
 
 slice-aggregate-store : tie.Need-slice-aggregate-store
 slice-aggregate-store c =
     let p = c .before .before .before .before in
     let s = p .before .before .before .before .before .before .before in
     let a = s .args in
-    let few : a .n ≤ maxFilters = A.start-few (a .n) (a .slots) (a .tests) (now (a .ranks)) (now (a .list)) (now (a .table)) (now (a .scratch)) (s .pre) in
-    sym (front-whole (a .n) words few refl (p .start-into .last .1 .0) (p .start-into .kept .1 .0))
+    let roomy = A.start-roomy (a .n) (a .slots) (a .tests) (now (a .ranks)) (now (a .list)) (now (a .table)) (now (a .scratch)) (s .pre) in
+    sym (front-whole (a .n) words roomy (p .start-into .last .1 .0) (p .start-into .kept .1 .0))
 
 store-requires : tie.Need-store-requires
 store-requires c κs =
     let p = c .before .before .before .before in
     let s = p .before .before .before .before .before .before .before in
     let a = s .args in
-    let few : a .n ≤ maxFilters = A.start-few (a .n) (a .slots) (a .tests) (now (a .ranks)) (now (a .list)) (now (a .table)) (now (a .scratch)) (s .pre) in
-    A.store-asks (a .n) (a .slots) (a .tests) (now (a .ranks)) (now (a .list)) (now (a .table)) (now (a .scratch)) (s .pre) _ (front-whole (a .n) words few refl (p .start-into .last .1 .0) (p .start-into .kept .1 .0)) (some-slot (a .slots) (p .before .before .if1 .left))
+    let roomy = A.start-roomy (a .n) (a .slots) (a .tests) (now (a .ranks)) (now (a .list)) (now (a .table)) (now (a .scratch)) (s .pre) in
+    A.store-asks (a .n) (a .slots) (a .tests) (now (a .ranks)) (now (a .list)) (now (a .table)) (now (a .scratch)) (s .pre) _ (front-whole (a .n) words roomy (p .start-into .last .1 .0) (p .start-into .kept .1 .0)) (some-slot (a .slots) (p .before .before .if1 .left))
+
+slice-aggregate-place-state : tie.Need-slice-aggregate-place-state
+slice-aggregate-place-state c =
+    let p = c .before .before .before .before .before .before .before .before .before .before .before .before in
+    let s = p .before .before .before .before .before .before .before in
+    sym (length-front words (p .start-into .last .1 .0) (filterSlot * s .args .n) (p .start-into .kept .1 .0))
 
 place-state-requires : tie.Need-place-state-requires
 place-state-requires c κs =
-    let v = c .before .before .before .before .before .before in
+    let v = c .before .before .before .before .before .before .before in
     let p = v .before .before .before .before .before in
     let s = p .before .before .before .before .before .before .before in
     let a = s .args in
-    let few : a .n ≤ maxFilters = A.start-few (a .n) (a .slots) (a .tests) (now (a .ranks)) (now (a .list)) (now (a .table)) (now (a .scratch)) (s .pre) in
-    A.ready-start (a .n) (a .slots) (a .tests) (now (a .ranks)) (now (a .list)) (now (a .table)) (now (a .scratch)) (s .pre) _ _ (some-slot (a .slots) (p .before .before .if1 .left)) (v .store .kept .1 .1 .1 .0) (v .store .kept .1 .1 .1 .1 .0)
+    let roomy = A.start-roomy (a .n) (a .slots) (a .tests) (now (a .ranks)) (now (a .list)) (now (a .table)) (now (a .scratch)) (s .pre) in
+    (A.ready-start (a .n) (a .slots) (a .tests) (now (a .ranks)) (now (a .list)) (now (a .table)) (now (a .scratch)) (s .pre) _ _ (some-slot (a .slots) (p .before .before .if1 .left)) (v .store .kept .1 .1 .1 .0) (v .store .kept .1 .1 .1 .1 .0), front-fits (a .n) words roomy (p .start-into .last .1 .0) (p .start-into .kept .1 .0))
 
 same-length : tie.Need-same-length
 same-length c = search needs
@@ -96,13 +103,13 @@ same-length-2 c = search needs
 
 returns-2 : tie.Need-returns-2
 returns-2 c =
-    let x = c .before .before .before .before in
-    let v = x .before .before .before .before .before .before .before in
+    let x = c .before .before .before .before .before in
+    let v = x .before .before .before .before .before .before .before .before in
     let p = v .before .before .before .before .before in
     let s = p .before .before .before .before .before .before .before in
     let a = s .args in
-    let few : a .n ≤ maxFilters = A.start-few (a .n) (a .slots) (a .tests) (now (a .ranks)) (now (a .list)) (now (a .table)) (now (a .scratch)) (s .pre) in
-    let made = front-is (a .n) words few refl (p .start-into .last .1 .0) (p .start-into .kept .1 .0) ∙ p .start-into .ensures in
+    let roomy = A.start-roomy (a .n) (a .slots) (a .tests) (now (a .ranks)) (now (a .list)) (now (a .table)) (now (a .scratch)) (s .pre) in
+    let made = front-is (a .n) words roomy (p .start-into .last .1 .0) (p .start-into .kept .1 .0) ∙ p .start-into .ensures in
     let t₁ = v .store .last .1 .1 .1 .0 in
     let s₁ = v .store .last .1 .1 .1 .1 .0 in
     S.started (a .n) (a .slots) (now (a .ranks)) (a .tests) (startWords (a .n) (now (a .ranks)) (now (a .list))) (now (a .table)) (now (a .scratch))
@@ -122,6 +129,7 @@ place-start-spec =
     array-share-prefix-words
     slice-aggregate-store
     store-requires
+    slice-aggregate-place-state
     place-state-requires
     same-length
     same-length-2
