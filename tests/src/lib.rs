@@ -16,6 +16,7 @@
 //! - `examples`: lists with known answers
 //! - `random`, `lists`, `frames`: seeded inputs
 //! - `coverage`, `runner`: what a run has met, and how it is counted
+//! - `tools`: other programs that the tests run, where they are installed
 //! - `ffi`: the library under test
 
 pub mod brute;
@@ -34,4 +35,5 @@ pub mod residue;
 pub mod rules;
 pub mod runner;
 pub mod scanner;
+pub mod tools;
 pub mod walker;

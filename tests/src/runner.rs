@@ -14,6 +14,7 @@ pub enum Ended {
 
 pub struct Runner {
     only: Vec<String>,
+    stop: bool,
     passed: usize,
     failed: Vec<String>,
     skipped: usize,
@@ -21,10 +22,12 @@ pub struct Runner {
 }
 
 impl Runner {
-    /// Words on the command line choose the checks whose names contain one of them.
+    /// Words on the command line choose the checks whose names contain one of them; with `--stop`
+    /// the run ends at the first check that fails.
     pub fn new() -> Runner {
+        let stop = env::args().any(|word| word == "--stop");
         let only = env::args().skip(1).filter(|word| !word.starts_with('-')).collect();
-        Runner { only, passed: 0, failed: Vec::new(), skipped: 0, began: Instant::now() }
+        Runner { only, stop, passed: 0, failed: Vec::new(), skipped: 0, began: Instant::now() }
     }
 
     /// Whether all checks run, none being chosen by name.
@@ -58,12 +61,15 @@ impl Runner {
             Err(_) => {
                 self.failed.push(name.to_string());
                 println!("test {name} ... FAILED");
+                if self.stop {
+                    self.finish();
+                }
             }
         }
     }
 
     /// Prints the last line and ends the process.
-    pub fn finish(self) -> ! {
+    pub fn finish(&self) -> ! {
         let word = if self.failed.is_empty() { "ok" } else { "FAILED" };
         for name in &self.failed {
             println!("failed: {name}");
