@@ -5,6 +5,7 @@ use std::env;
 
 fn main() {
     println!("cargo:rerun-if-env-changed=FILTERBOX_LIB_DIR");
+    println!("cargo:rerun-if-env-changed=FILTERBOX_LINK");
     if env::var_os("CARGO_FEATURE_LIBRARY").is_none() {
         return;
     }
@@ -12,6 +13,8 @@ fn main() {
     let folder =
         env::var("FILTERBOX_LIB_DIR").unwrap_or_else(|_| format!("{here}/../target/staticlib"));
     println!("cargo:rustc-link-search=native={folder}");
-    println!("cargo:rustc-link-lib=static=filterbox");
+    // Only the damaged stand-ins of standin/try-mutants are linked as dylib.
+    let kind = env::var("FILTERBOX_LINK").unwrap_or_else(|_| "static".to_string());
+    println!("cargo:rustc-link-lib={kind}=filterbox");
     println!("cargo:rerun-if-changed={folder}/libfilterbox.a");
 }

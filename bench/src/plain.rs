@@ -495,6 +495,7 @@ pub fn read_header(frame: &[u8], port: u8) -> Header {
 }
 
 /// Walks a frame through a table.
+#[inline(never)]
 pub fn classify(frame: &[u8], port: u8, table: &[u32], states: u32, allowance: u32) -> Answer {
     let refused = |refusal| Answer { ended: 0, refusal, sure: 0, out: 0, asked: 0 };
     if frame.len() > 1522 {

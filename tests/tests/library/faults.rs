@@ -1,7 +1,9 @@
 //! Faulty lists: each fault in each place, with a second one behind it; lists cut at every word.
 
+use filterbox_tests::builder::RECORD_WORDS;
 use filterbox_tests::coverage::Coverage;
 use filterbox_tests::examples::{empty_filters, test, ECHO};
+use filterbox_tests::ffi;
 use filterbox_tests::fields::{full, FIELDS};
 use filterbox_tests::lists::{self, places, style, Style};
 use filterbox_tests::random::Random;
@@ -10,7 +12,7 @@ use filterbox_tests::rules::{
 };
 use filterbox_tests::runner::Runner;
 
-use crate::support::build_in_slots;
+use crate::support::{build, build_in_slots};
 
 const SEED: u64 = 0xFA17;
 const RANDOM_LISTS: usize = 20_000;
@@ -122,10 +124,15 @@ fn place(fault: Fault, at: usize, filter: usize, part: usize, field: u32) -> Pla
     Placed { at: at + fault.word, word, refusal: fault.refusal, filter, order }
 }
 
+/// A fault comes before what is wrong with the room: too little scratch, or no slot at all.
 fn refused(list: &[u32], should: &Placed, coverage: &mut Coverage) {
-    let built = build_in_slots(list, SLOTS, coverage).built;
     let expect = (should.refusal, should.filter as u32);
-    assert_eq!((built.refusal, built.number), expect, "{should:?} in {list:?}");
+    let enough = build_in_slots(list, SLOTS, coverage).built;
+    let short = build(list, SLOTS * RECORD_WORDS, 0, coverage).built;
+    let none = build(list, 0, 0, coverage).built;
+    for built in [enough, short, none] {
+        assert_eq!((built.refusal, built.number), expect, "{should:?} in {list:?}");
+    }
 }
 
 fn each_fault(coverage: &mut Coverage) {
@@ -273,6 +280,9 @@ fn random_lists(coverage: &mut Coverage) {
     for case in 0..RANDOM_LISTS {
         let random = &mut Random::case(SEED ^ 1, case as u64);
         let list = lists::faulty(random, style(case, RANDOM_LISTS));
-        build_in_slots(&list, random.between(0, 30), coverage);
+        let slots = random.between(0, 30);
+        let need = slots * ffi::scratch_words();
+        let scratch = random.pick(&[need, need, need.saturating_sub(1), need / 2, 0]);
+        build(&list, slots * RECORD_WORDS, scratch, coverage);
     }
 }
