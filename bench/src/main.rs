@@ -5,8 +5,9 @@
 //!   (library, in-turn, sorted, walk) and nothing else, for counting instructions.
 //!
 //! Contenders take turns in short rounds and each number is the median of its rounds, so that what
-//! else the machine does falls on all of them alike.
+//! else the machine does falls on all of them alike. Times are of the processor, not of the wall.
 
+mod clock;
 mod library;
 mod lists;
 mod plain;
@@ -14,7 +15,6 @@ mod scanner;
 
 use std::env;
 use std::hint::black_box;
-use std::time::Instant;
 
 use lists::{Packet, Random, FRAME};
 use plain::{AsSlices, Built, WordByWord, RECORD};
@@ -66,13 +66,13 @@ fn median(numbers: &mut [f64]) -> f64 {
 
 /// Nanoseconds that `ask` takes for a frame, over all frames once.
 fn time(case: &Case, mut ask: impl FnMut(&[u8]) -> u32) -> f64 {
-    let began = Instant::now();
+    let began = clock::now();
     let mut sum = 0u32;
     for frame in &case.frames {
         sum = sum.wrapping_add(ask(black_box(frame)));
     }
     black_box(sum);
-    began.elapsed().as_nanos() as f64 / case.frames.len() as f64
+    (clock::now() - began) / case.frames.len() as f64
 }
 
 fn classify_table(cases: &[Case]) {
@@ -133,9 +133,9 @@ fn build_table() {
         let mut tables = Vec::new();
         for round in 0..rounds {
             for (build, times) in BUILDERS.iter().zip(&mut times) {
-                let began = Instant::now();
+                let began = clock::now();
                 let built = build(black_box(&list), &mut table, &mut scratch);
-                times.push(began.elapsed().as_nanos() as f64 / 1e6);
+                times.push((clock::now() - began) / 1e6);
                 assert_eq!((built.refusal, built.number as usize), (0, states));
                 if round == 0 {
                     tables.push(table.clone());
