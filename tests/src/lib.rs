@@ -15,6 +15,7 @@
 //! - `program`: what the program `compile` prints for a text
 //! - `examples`: lists with known answers
 //! - `random`, `lists`, `frames`: seeded inputs
+//! - `pages`: memory with nothing before and behind it
 //! - `pcap`: the frames of a capture file
 //! - `coverage`, `runner`: what a run has met, and how it is counted
 //! - `tools`: other programs that the tests run, where they are installed
@@ -30,6 +31,8 @@ pub mod ffi;
 pub mod fields;
 pub mod frames;
 pub mod lists;
+#[cfg(feature = "library")]
+pub mod pages;
 pub mod pcap;
 pub mod program;
 pub mod random;

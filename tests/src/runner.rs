@@ -2,6 +2,7 @@
 //! targets that print something at their end or may have to skip a check.
 
 use std::env;
+use std::io::{self, Write};
 use std::panic::{catch_unwind, AssertUnwindSafe};
 use std::time::Instant;
 
@@ -46,21 +47,24 @@ impl Runner {
         if !self.runs_all() && !self.only.iter().any(|word| name.contains(word.as_str())) {
             return;
         }
+        // The name comes first, so that a check which ends the process is known.
+        print!("test {name} ... ");
+        io::stdout().flush().expect("standard output");
         let began = Instant::now();
         let result = catch_unwind(AssertUnwindSafe(body));
         let seconds = began.elapsed().as_secs_f64();
         match result {
             Ok(Ended::Passed) => {
                 self.passed += 1;
-                println!("test {name} ... ok ({seconds:.1} s)");
+                println!("ok ({seconds:.1} s)");
             }
             Ok(Ended::Skipped(why)) => {
                 self.skipped += 1;
-                println!("test {name} ... ignored, {why}");
+                println!("ignored, {why}");
             }
             Err(_) => {
                 self.failed.push(name.to_string());
-                println!("test {name} ... FAILED");
+                println!("FAILED");
                 if self.stop {
                     self.finish();
                 }

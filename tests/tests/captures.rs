@@ -167,10 +167,9 @@ fn against_libpcap() -> Ended {
         Ok(helper) => helper,
         Err(why) => return Ended::Skipped(why),
     };
-    let mut taken = 0;
     for (tests, expression) in rules() {
         let filter = Filter { group: 0, level: 0, tests };
-        let mut taken_by_rule = 0;
+        let mut taken = 0;
         for (name, ..) in CAPTURES {
             let path = file(&format!("{name}.pcap"));
             let output = run(Command::new(&helper).arg(path).arg(&expression));
@@ -181,11 +180,9 @@ fn against_libpcap() -> Ended {
                 .map(|holds| if holds { '1' } else { '0' })
                 .collect();
             assert_eq!(ours, theirs, "{name}: scanner and libpcap's {expression}");
-            taken_by_rule += ours.matches('1').count();
+            taken += ours.matches('1').count();
         }
-        assert!(taken_by_rule > 0, "no frame for {expression}");
-        taken += taken_by_rule;
+        assert!(taken > 0, "no frame for {expression}");
     }
-    println!("libpcap took {taken} frames by {} rules, and so did the scanner", rules().len());
     Ended::Passed
 }

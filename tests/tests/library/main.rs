@@ -3,6 +3,7 @@
 //! may be zero.
 
 mod damage;
+mod edges;
 mod faults;
 mod headers;
 mod numbers;
@@ -22,6 +23,7 @@ fn main() {
     rooms::run(&mut runner, &mut coverage);
     headers::run(&mut runner, &mut coverage);
     damage::run(&mut runner, &mut coverage);
+    edges::run(&mut runner, &mut coverage);
     let (report, missing) = coverage.report();
     println!("\nWhat the run has met\n{report}\n");
     if runner.runs_all() {

@@ -88,7 +88,8 @@ pub fn build(
     Outcome { built, table: table.lend().to_vec() }
 }
 
-fn note_build(built: Built, coverage: &mut Coverage) {
+/// Counts a build.
+pub fn note_build(built: Built, coverage: &mut Coverage) {
     coverage.lists += 1;
     coverage.refusal(built.refusal);
     if built.refusal == 0 {
