@@ -132,9 +132,9 @@ fn held(remaining: &Remaining) -> bool {
 /// Puts out each filter that ranks below a held one, the held ones among them as well.
 fn drop_beaten(filters: &[Filter], state: &mut State) {
     let holding: Vec<usize> = (0..state.len()).filter(|&i| held(&state[i])).collect();
-    for i in 0..state.len() {
+    for (i, remaining) in state.iter_mut().enumerate() {
         if holding.iter().any(|&j| above(filters, j, i)) {
-            state[i] = None;
+            *remaining = None;
         }
     }
 }

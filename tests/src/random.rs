@@ -10,11 +10,11 @@ impl Random {
     /// A sequence of its own for one case of a run, so that a case can be repeated alone.
     pub fn case(seed: u64, number: u64) -> Self {
         let mut random = Random(seed ^ number.wrapping_mul(0xD1B5_4A32_D192_ED03));
-        random.next();
+        random.step();
         random
     }
 
-    pub fn next(&mut self) -> u64 {
+    fn step(&mut self) -> u64 {
         self.0 = self.0.wrapping_add(0x9E37_79B9_7F4A_7C15);
         let mut z = self.0;
         z = (z ^ z >> 30).wrapping_mul(0xBF58_476D_1CE4_E5B9);
@@ -23,16 +23,16 @@ impl Random {
     }
 
     pub fn word(&mut self) -> u32 {
-        (self.next() >> 32) as u32
+        (self.step() >> 32) as u32
     }
 
     pub fn byte(&mut self) -> u8 {
-        (self.next() >> 56) as u8
+        (self.step() >> 56) as u8
     }
 
     /// A number below n, which is not 0. The slight favour for small ones does no harm here.
     pub fn below(&mut self, n: usize) -> usize {
-        ((self.next() >> 32) as usize) % n
+        ((self.step() >> 32) as usize) % n
     }
 
     /// A number from low to high, both allowed.

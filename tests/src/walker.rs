@@ -3,7 +3,6 @@
 
 use crate::builder::{slots, RECORD_WORDS};
 use crate::fields::{read, FIELDS};
-use crate::residue::Outcome;
 use crate::rules::{Test, AT_LEAST};
 
 /// The longest frame that is not refused.
@@ -30,18 +29,6 @@ fn refused(refusal: u32) -> Answer {
 
 /// Walks a frame through a table, with so many questions allowed.
 pub fn classify(frame: &[u8], port: u8, table: &[u32], states: u32, allowance: u32) -> Answer {
-    walk(frame, port, table, states, allowance, &mut |_, _| {})
-}
-
-/// The same, telling each question and its outcome once its way has been taken.
-pub fn walk(
-    frame: &[u8],
-    port: u8,
-    table: &[u32],
-    states: u32,
-    allowance: u32,
-    taken: &mut dyn FnMut(&Test, Outcome),
-) -> Answer {
     if frame.len() > MOST_FRAME {
         return refused(12);
     }
@@ -63,16 +50,15 @@ pub fn walk(
             let ended = if final_state { DONE } else { STOPPED };
             return Answer { ended, refusal: 0, sure: record[7], out: record[8], asked };
         }
-        let (way, outcome) = match readings[question.field as usize] {
-            None => (6, Outcome::Absent),
-            Some(x) if question.of(x) => (4, Outcome::Holds),
-            Some(_) => (5, Outcome::Fails),
+        let way = match readings[question.field as usize] {
+            None => 6,
+            Some(x) if question.of(x) => 4,
+            Some(_) => 5,
         };
         if record[way] >= states {
             return refused(13);
         }
         number = record[way];
         asked += 1;
-        taken(&question, outcome);
     }
 }

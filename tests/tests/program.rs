@@ -31,9 +31,40 @@ states 10
 ";
 const ONE_STATE: &str = "states 1\n0 0 0 0 0 0 0 0 0 0\n";
 
+/// Items that are no decimal numbers up to 4,294,967,295. Two of them would be small numbers if the
+/// greatest ones were left to wrap.
+const NO_ITEMS: [&str; 26] = [
+    "4294967296",
+    "4294967297",
+    "4294967302",
+    "10000000000",
+    "18446744073709551616",
+    "18446744073709551623",
+    "99999999999999999999999999999999999999999",
+    "-1",
+    "+1",
+    "-0",
+    "+",
+    "-",
+    "1.0",
+    "1,",
+    "0x7",
+    "1e1",
+    "7\t",
+    "\t7",
+    "7\r",
+    "7\r\n",
+    "7\x0b",
+    "7\x0c",
+    "7\0",
+    "7\u{a0}",
+    "\u{667}",
+    "seven",
+];
+
 fn main() {
     let mut runner = Runner::new();
-    let checks: [(&str, fn(&Program)); 9] = [
+    let checks: [(&str, Check); 9] = [
         ("program_prints_the_example", example),
         ("program_gives_each_refusal", refusals),
         ("program_lends_16_slots", slots),
@@ -55,6 +86,8 @@ fn main() {
     }
     runner.finish();
 }
+
+type Check = fn(&Program);
 
 struct Program(PathBuf);
 
@@ -188,35 +221,7 @@ fn items(program: &Program) {
     for item in ["256", "4294967295", "000004294967295"] {
         program.prints(one_filter(item).as_bytes(), "refused 8 0\n");
     }
-    let no_items = [
-        "4294967296",
-        "4294967297",
-        "4294967302",
-        "10000000000",
-        "18446744073709551616",
-        "18446744073709551623",
-        "99999999999999999999999999999999999999999",
-        "-1",
-        "+1",
-        "-0",
-        "+",
-        "-",
-        "1.0",
-        "1,",
-        "0x7",
-        "1e1",
-        "7\t",
-        "\t7",
-        "7\r",
-        "7\r\n",
-        "7\x0b",
-        "7\x0c",
-        "7\0",
-        "7\u{a0}",
-        "\u{667}",
-        "seven",
-    ];
-    for item in no_items {
+    for item in NO_ITEMS {
         program.prints(one_filter(item).as_bytes(), "refused 14 0\n");
         program.prints(item.as_bytes(), "refused 14 0\n");
     }

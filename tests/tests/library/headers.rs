@@ -49,8 +49,8 @@ impl Lamps {
             })
             .into();
         let mut bytes = Vec::new();
-        for field in 0..FIELDS {
-            for shift in (0..WIDTHS[field]).step_by(8) {
+        for (field, width) in WIDTHS.into_iter().enumerate() {
+            for shift in (0..width).step_by(8) {
                 let bits = (shift..shift + 8).map(|i| 1u32 << i);
                 let tests = bits.map(|bit| test(EQUAL, field as u32, bit, bit));
                 let list = in_groups_of_their_own(tests.collect());
