@@ -133,75 +133,83 @@ const OFFICE: u32 = 0x0A00_0000;
 const SHOP: u32 = 0x0A01_0000;
 const GUESTS: u32 = 0x0A02_0000;
 
-/// (b) A firewall's list: 32 filters of 4 to 6 tests in one group, the first that holds stands.
-pub fn firewall() -> Vec<u32> {
-    let high = at_least(8, 1024);
-    let mut filters: Vec<Vec<[u32; 4]>> = Vec::new();
-    // Connections to the servers, each network with its services.
+type Tests = Vec<[u32; 4]>;
+
+/// A source port above those of servers.
+const HIGH: [u32; 4] = [4, 8, 0, 1024];
+
+/// Connections to the servers: each network with its services, then what belongs to them.
+fn to_servers() -> Vec<Tests> {
+    let mut filters = Vec::new();
     for (network, services) in [(OFFICE, [22, 25, 80, 443]), (SHOP, [80, 443, 8080, 9100])] {
         for service in services {
-            filters.push(vec![protocol(TCP), to(network), to_port(service), SYN_ONLY, high]);
+            filters.push(vec![protocol(TCP), to(network), to_port(service), SYN_ONLY, HIGH]);
         }
         filters.push(vec![protocol(TCP), to(network), ESTABLISHED, NO_FRAGMENT]);
     }
-    // Guests only reach the world, by web and mail, and never the other networks.
-    for service in [80, 443, 587, 993] {
-        let world = [2, 7, 0xFF00_0000, 0x0A00_0000];
-        filters.push(vec![
-            protocol(TCP),
-            from(GUESTS),
-            world,
-            to_port(service),
-            high,
-            at_least(4, 2),
-        ]);
-    }
-    for (low, top) in [(5000, 5100), (6000, 6063)] {
-        filters.push(vec![
-            protocol(TCP),
-            to(SHOP),
-            at_least(9, low),
-            at_most(9, top),
-            SYN_ONLY,
-            from(OFFICE),
-        ]);
-    }
-    // Names, time, telephones.
-    for service in [53, 123, 161, 5060] {
-        filters.push(vec![protocol(UDP), to(OFFICE), to_port(service), high]);
-    }
-    for network in [OFFICE, SHOP] {
-        filters.push(vec![
-            protocol(UDP),
-            to(network),
-            at_least(9, 16_384),
-            at_most(9, 32_767),
-            NO_FRAGMENT,
-        ]);
-    }
-    filters.push(vec![protocol(UDP), from(GUESTS), to_port(53), high]);
-    filters.push(vec![protocol(UDP), from(GUESTS), to_port(443), high, at_least(4, 2)]);
-    // Messages of the network itself.
-    for (kind, code) in [(8, 0), (0, 0), (3, 15), (11, 1)] {
-        filters.push(vec![
-            protocol(ICMP),
-            [1, 11, 255, kind],
-            at_most(12, code),
-            NO_FRAGMENT,
-            at_least(4, 2),
-        ]);
-    }
-    // What is only counted.
-    filters.push(vec![protocol(TCP), [1, 10, 0x3F, 0x29], at_most(4, 64), NO_FRAGMENT]);
-    filters.push(vec![protocol(TCP), [1, 10, 0x03, 0x03], at_most(4, 64), NO_FRAGMENT]);
-    filters.push(vec![protocol(TCP), SYN_ONLY, at_most(8, 1023), at_most(9, 1023)]);
-    filters.push(vec![protocol(UDP), at_most(8, 1023), at_most(9, 1023), at_most(4, 64)]);
-    let level = |i: usize| 3 - i as u32 / 8;
     filters
-        .iter()
-        .enumerate()
-        .flat_map(|(i, tests)| [vec![1, level(i), tests.len() as u32], tests.concat()].concat())
-        .collect()
+}
+
+/// Guests only reach the world, by web and mail, and never the other networks.
+fn of_guests() -> Vec<Tests> {
+    let world = [2, 7, 0xFF00_0000, 0x0A00_0000];
+    let guest =
+        |service| vec![protocol(TCP), from(GUESTS), world, to_port(service), HIGH, at_least(4, 2)];
+    [80, 443, 587, 993].map(guest).into()
+}
+
+/// Ranges of ports that the office uses in the shop.
+fn to_machines() -> Vec<Tests> {
+    let range = |(low, top)| {
+        let ports = [at_least(9, low), at_most(9, top)];
+        vec![protocol(TCP), to(SHOP), ports[0], ports[1], SYN_ONLY, from(OFFICE)]
+    };
+    [(5000, 5100), (6000, 6063)].map(range).into()
+}
+
+/// Names, time, telephones.
+fn datagrams() -> Vec<Tests> {
+    let service = |number| vec![protocol(UDP), to(OFFICE), to_port(number), HIGH];
+    let voices = |network| {
+        let ports = [at_least(9, 16_384), at_most(9, 32_767)];
+        vec![protocol(UDP), to(network), ports[0], ports[1], NO_FRAGMENT]
+    };
+    let mut filters: Vec<Tests> = [53, 123, 161, 5060].map(service).into();
+    filters.extend([OFFICE, SHOP].map(voices));
+    filters.push(vec![protocol(UDP), from(GUESTS), to_port(53), HIGH]);
+    filters.push(vec![protocol(UDP), from(GUESTS), to_port(443), HIGH, at_least(4, 2)]);
+    filters
+}
+
+/// Messages of the network itself.
+fn messages() -> Vec<Tests> {
+    let message = |(kind, code)| {
+        let kind = [1, 11, 255, kind];
+        vec![protocol(ICMP), kind, at_most(12, code), NO_FRAGMENT, at_least(4, 2)]
+    };
+    [(8, 0), (0, 0), (3, 15), (11, 1)].map(message).into()
+}
+
+/// What is only counted: odd flags, low ports on both sides.
+fn counted() -> Vec<Tests> {
+    vec![
+        vec![protocol(TCP), [1, 10, 0x3F, 0x29], at_most(4, 64), NO_FRAGMENT],
+        vec![protocol(TCP), [1, 10, 0x03, 0x03], at_most(4, 64), NO_FRAGMENT],
+        vec![protocol(TCP), SYN_ONLY, at_most(8, 1023), at_most(9, 1023)],
+        vec![protocol(UDP), at_most(8, 1023), at_most(9, 1023), at_most(4, 64)],
+    ]
+}
+
+/// (b) A firewall's list: 32 filters of 4 to 6 tests in one group, the first that holds stands.
+pub fn firewall() -> Vec<u32> {
+    let filters =
+        [to_servers(), of_guests(), to_machines(), datagrams(), messages(), counted()].concat();
+    assert_eq!(filters.len(), 32);
+    let level = |i: usize| 3 - i as u32 / 8;
+    let words = |(i, tests): (usize, &Tests)| {
+        [vec![1, level(i), tests.len() as u32], tests.concat()].concat()
+    };
+    filters.iter().enumerate().flat_map(words).collect()
 }
 
 /// Packets as such a firewall meets them: many towards its filters, some towards none.

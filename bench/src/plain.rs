@@ -189,23 +189,7 @@ fn residue(test: Test, fact: Test) -> Left {
     match fact.kind {
         0 => Left::False,
         EQUAL if fact.mask == all => decided(test.of(fact.value)),
-        EQUAL => match test.kind {
-            EQUAL | DIFFERS => {
-                if test.value & fact.mask != fact.value & test.mask {
-                    return decided(!equal);
-                }
-                let rest = test.mask & !fact.mask;
-                if rest == 0 {
-                    return decided(equal);
-                }
-                Left::Test(rest, test.value & rest)
-            }
-            AT_MOST if fact.value > test.value => Left::False,
-            AT_MOST if fact.value + (all - fact.mask) <= test.value => Left::True,
-            AT_LEAST if fact.value >= test.value => Left::True,
-            AT_LEAST if fact.value + (all - fact.mask) < test.value => Left::False,
-            _ => same,
-        },
+        EQUAL => given_equal(test, fact, all),
         DIFFERS => {
             let masked = test.kind <= DIFFERS;
             if masked && fact.mask & !test.mask == 0 && test.value & fact.mask == fact.value {
@@ -225,6 +209,29 @@ fn residue(test: Test, fact: Test) -> Left {
             AT_LEAST if test.value <= fact.value => Left::True,
             _ => same,
         },
+    }
+}
+
+/// The same where some bits of the field are known.
+fn given_equal(test: Test, fact: Test, all: u32) -> Left {
+    let same = Left::Test(test.mask, test.value);
+    let equal = test.kind == EQUAL;
+    match test.kind {
+        EQUAL | DIFFERS => {
+            if test.value & fact.mask != fact.value & test.mask {
+                return decided(!equal);
+            }
+            let rest = test.mask & !fact.mask;
+            if rest == 0 {
+                return decided(equal);
+            }
+            Left::Test(rest, test.value & rest)
+        }
+        AT_MOST if fact.value > test.value => Left::False,
+        AT_MOST if fact.value + (all - fact.mask) <= test.value => Left::True,
+        AT_LEAST if fact.value >= test.value => Left::True,
+        AT_LEAST if fact.value + (all - fact.mask) < test.value => Left::False,
+        _ => same,
     }
 }
 
@@ -439,13 +446,17 @@ pub struct Header {
     pub values: [u32; 14],
 }
 
+/// The number in two bytes.
+fn pair(bytes: &[u8], at: usize) -> u32 {
+    u32::from(bytes[at]) << 8 | u32::from(bytes[at + 1])
+}
+
 pub fn read_header(frame: &[u8], port: u8) -> Header {
     let mut header = Header { present: 1 << 13, values: [0; 14] };
     header.values[13] = u32::from(port);
     if frame.len() < 14 {
         return header;
     }
-    let pair = |bytes: &[u8], at: usize| u32::from(bytes[at]) << 8 | u32::from(bytes[at + 1]);
     let ethertype = pair(frame, 12);
     if ethertype >= 1536 {
         header.present |= 1;
@@ -469,7 +480,12 @@ pub fn read_header(frame: &[u8], port: u8) -> Header {
     header.values[6] = pair(ip, 12) << 16 | pair(ip, 14);
     header.values[7] = pair(ip, 16) << 16 | pair(ip, 18);
     let part = &ip[length..total];
-    match ip[9] {
+    read_transport(&mut header, ip[9], part);
+    header
+}
+
+fn read_transport(header: &mut Header, protocol: u8, part: &[u8]) {
+    match protocol {
         1 => {
             if let Some(&kind) = part.first() {
                 header.present |= 1 << 11;
@@ -484,14 +500,13 @@ pub fn read_header(frame: &[u8], port: u8) -> Header {
             header.present |= 3 << 8;
             header.values[8] = pair(part, 0);
             header.values[9] = pair(part, 2);
-            if ip[9] == 6 && part.len() >= 14 {
+            if protocol == 6 && part.len() >= 14 {
                 header.present |= 1 << 10;
                 header.values[10] = u32::from(part[13]);
             }
         }
         _ => {}
     }
-    header
 }
 
 /// Walks a frame through a table.
