@@ -1,0 +1,193 @@
+//! Measures the library beside ordinary Rust code that does the same, as ratios in one run.
+//!
+//! - `filterbox-bench`: nanoseconds a frame for three lists, and build times, as two small tables;
+//! - `filterbox-bench count CASE WHO N`: classifies N frames of a case (a, b, c) with one contender
+//!   (library, in-turn, sorted, walk) and nothing else, for counting instructions.
+//!
+//! Contenders take turns in short rounds and each number is the median of its rounds, so that what
+//! else the machine does falls on all of them alike. Times are of the processor, not of the wall.
+
+mod clock;
+mod library;
+mod lists;
+mod plain;
+mod scanner;
+
+use std::env;
+use std::hint::black_box;
+
+use lists::{Packet, Random, FRAME};
+use plain::{AsSlices, Built, WordByWord, RECORD};
+use scanner::{InTurn, Sorted};
+
+const FRAMES: usize = 16_384;
+const ROUNDS: usize = 31;
+
+/// A list with its table and frames.
+struct Case {
+    name: &'static str,
+    list: Vec<u32>,
+    table: Vec<u32>,
+    states: u32,
+    frames: Vec<[u8; FRAME]>,
+}
+
+impl Case {
+    fn new(name: &'static str, list: Vec<u32>, packet: fn(&mut Random) -> Packet) -> Case {
+        let slots = 4096;
+        let mut table = vec![0; slots * RECORD];
+        let mut scratch = vec![0; slots * library::scratch_words()];
+        let built = library::build(&list, &mut table, &mut scratch);
+        assert_eq!(built.refusal, 0, "{name} is built");
+        table.truncate(built.number as usize * RECORD);
+        let random = &mut Random(2_024);
+        let frames = (0..FRAMES).map(|_| packet(random).bytes()).collect();
+        Case { name, list, table, states: built.number, frames }
+    }
+
+    /// The sure sets of all frames, to see that all contenders do the same.
+    fn sets(&self, ask: impl Fn(&[u8]) -> u32) -> Vec<u32> {
+        self.frames.iter().map(|frame| ask(frame)).collect()
+    }
+}
+
+fn cases() -> Vec<Case> {
+    vec![
+        Case::new("a: 32 ports, 32 groups", lists::ports(), lists::port_packet),
+        Case::new("b: firewall, one group", lists::firewall(), lists::firewall_packet),
+        Case::new("c: echo example", lists::ECHO.to_vec(), lists::echo_packet),
+    ]
+}
+
+fn median(numbers: &mut [f64]) -> f64 {
+    numbers.sort_by(f64::total_cmp);
+    numbers[numbers.len() / 2]
+}
+
+/// Nanoseconds that `ask` takes for a frame, over all frames once.
+fn time(case: &Case, mut ask: impl FnMut(&[u8]) -> u32) -> f64 {
+    let began = clock::now();
+    let mut sum = 0u32;
+    for frame in &case.frames {
+        sum = sum.wrapping_add(ask(black_box(frame)));
+    }
+    black_box(sum);
+    (clock::now() - began) / case.frames.len() as f64
+}
+
+fn classify_table(cases: &[Case]) {
+    println!("Classifying, ns a frame and ratio to the scanner that asks in turn");
+    println!(
+        "{:<26}{:>7}{:>10}{:>10}{:>16}{:>16}{:>16}",
+        "list", "states", "questions", "in turn", "sorted, flat", "plain walk", "library"
+    );
+    for case in cases {
+        let (in_turn, sorted) = (InTurn::new(&case.list), Sorted::new(&case.list));
+        let walk = |frame: &[u8]| plain::classify(frame, 0, &case.table, case.states, u32::MAX);
+        let ours = |frame: &[u8]| library::classify(frame, 0, &case.table, case.states, u32::MAX);
+        let sets = case.sets(|frame| in_turn.scan_in_turn(frame, 0));
+        assert!(sets == case.sets(|frame| sorted.scan_sorted(frame, 0)));
+        assert!(sets == case.sets(|frame| walk(frame).sure));
+        assert!(sets == case.sets(|frame| ours(frame).sure));
+        let asked: u32 = case.frames.iter().map(|frame| ours(frame).asked).sum();
+        let mut times = [const { Vec::new() }; 4];
+        for _ in 0..ROUNDS {
+            times[0].push(time(case, |frame| in_turn.scan_in_turn(frame, 0)));
+            times[1].push(time(case, |frame| sorted.scan_sorted(frame, 0)));
+            times[2].push(time(case, |frame| walk(frame).sure));
+            times[3].push(time(case, |frame| ours(frame).sure));
+        }
+        let [base, others @ ..] = times.map(|mut rounds| median(&mut rounds));
+        let questions = f64::from(asked) / case.frames.len() as f64;
+        print!("{:<26}{:>7}{questions:>10.1}{base:>10.1}", case.name, case.states);
+        for other in others {
+            print!("{:>9.1} {:>6.2}", other, other / base);
+        }
+        println!();
+    }
+}
+
+type Build = fn(&[u32], &mut [u32], &mut [u32]) -> Built;
+
+/// The library first, then the plain builders in the order of the printed columns.
+const BUILDERS: [Build; 3] = [library::build, plain::build::<WordByWord>, plain::build::<AsSlices>];
+
+fn build_table() {
+    println!("\nBuilding, ms and the library's ratio to the plain builders");
+    println!(
+        "{:<26}{:>7}{:>10}{:>18}{:>7}{:>18}{:>7}",
+        "list", "states", "library", "plain, by words", "ratio", "plain, memcmp", "ratio"
+    );
+    let lists = [
+        ("6 one-bit tests", lists::one_bit_tests(6), 101),
+        ("b: firewall, one group", lists::firewall(), 31),
+        ("9 one-bit tests", lists::one_bit_tests(9), 31),
+        ("11 one-bit tests", lists::one_bit_tests(11), 7),
+    ];
+    for (name, list, rounds) in lists {
+        let states = states(&list);
+        // Scratch as the call before left it, zero in the slots; the table with its old records.
+        let mut table = vec![1; states * RECORD];
+        let mut scratch = vec![1; states * library::scratch_words().max(plain::SLOT)];
+        let mut times = [const { Vec::new() }; 3];
+        let mut tables = Vec::new();
+        for round in 0..rounds {
+            for (build, times) in BUILDERS.iter().zip(&mut times) {
+                let began = clock::now();
+                let built = build(black_box(&list), &mut table, &mut scratch);
+                times.push((clock::now() - began) / 1e6);
+                assert_eq!((built.refusal, built.number as usize), (0, states));
+                if round == 0 {
+                    tables.push(table.clone());
+                }
+            }
+        }
+        assert!(tables.windows(2).all(|pair| pair[0] == pair[1]), "{name}: the same table");
+        let [ours, words, slices] = times.map(|mut rounds| median(&mut rounds));
+        println!(
+            "{name:<26}{states:>7}{ours:>10.3}{words:>18.3}{:>7.2}{slices:>18.3}{:>7.2}",
+            ours / words,
+            ours / slices
+        );
+    }
+}
+
+fn states(list: &[u32]) -> usize {
+    let mut table = vec![0; plain::MOST_SLOTS * RECORD];
+    let mut scratch = vec![0; plain::MOST_SLOTS * plain::SLOT];
+    let built = plain::build::<AsSlices>(list, &mut table, &mut scratch);
+    assert_eq!(built.refusal, 0);
+    built.number as usize
+}
+
+/// Classifies so many frames with one contender only.
+fn count(case: &str, who: &str, frames: usize) {
+    let cases = cases();
+    let found = cases.iter().find(|known| known.name.starts_with(case));
+    let case = found.unwrap_or_else(|| panic!("no case {case}"));
+    let (in_turn, sorted) = (InTurn::new(&case.list), Sorted::new(&case.list));
+    let mut sum = 0u32;
+    for frame in case.frames.iter().cycle().take(frames) {
+        let frame = black_box(&frame[..]);
+        sum = sum.wrapping_add(match who {
+            "library" => library::classify(frame, 0, &case.table, case.states, u32::MAX).sure,
+            "in-turn" => in_turn.scan_in_turn(frame, 0),
+            "sorted" => sorted.scan_sorted(frame, 0),
+            "walk" => plain::classify(frame, 0, &case.table, case.states, u32::MAX).sure,
+            _ => panic!("no contender {who}"),
+        });
+    }
+    println!("{frames} frames, sum {sum}");
+}
+
+fn main() {
+    let words: Vec<String> = env::args().skip(1).collect();
+    match words.iter().map(String::as_str).collect::<Vec<_>>()[..] {
+        [] => {
+            classify_table(&cases());
+            build_table();
+        }
+        ["count", case, who, frames] => count(case, who, frames.parse().expect("a number")),
+        _ => panic!("usage: filterbox-bench [count CASE WHO FRAMES]"),
+    }
+}

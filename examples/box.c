@@ -1,0 +1,57 @@
+/*
+ * Compiles three filters and classifies one frame with them. From the repository root, once the
+ * library is built:
+ *
+ *   gcc -Wall -Iinclude examples/box.c target/staticlib/libfilterbox.a -o box && ./box
+ */
+#include <inttypes.h>
+#include <stdio.h>
+#include <stdlib.h>
+
+#include "filterbox.h"
+
+enum { SLOTS = 16, TABLE_WORDS = SLOTS * FILTERBOX_RECORD_WORDS };
+
+/* Filter 0: an echo request. Filter 1: an echo reply with time to live 1. Filter 2: time to live 1.
+   Each is in a group of its own, so that all that hold are in the match set. */
+static const uint32_t list[] = {
+    1, 0, 1,  1, 11, 255, 8,
+    2, 0, 2,  1, 11, 255, 0,  1, 4, 255, 1,
+    3, 0, 1,  1, 4, 255, 1,
+};
+
+/* An echo request with time to live 1, as it came from the wire. */
+static const uint8_t frame[] = {
+    /* Ethernet: to, from, EtherType */
+    0x02, 0, 0, 0, 0, 2,  0x02, 0, 0, 0, 0, 1,  0x08, 0x00,
+    /* IP: 28 bytes in all, time to live 1, protocol 1, from 10.0.0.1 to 10.0.0.2 */
+    0x45, 0, 0, 28,  0, 1, 0x40, 0,  1, 1, 0, 0,  10, 0, 0, 1,  10, 0, 0, 2,
+    /* ICMP: type 8, code 0 */
+    8, 0, 0xf7, 0xfe, 0, 0, 0, 1,
+};
+
+static uint32_t table[TABLE_WORDS];
+
+static const char *const ended[] = {"refused", "done", "stopped"};
+
+int main(void) {
+    size_t scratch_words = (size_t)SLOTS * filterbox_scratch_words();
+    uint32_t *scratch = calloc(scratch_words, sizeof *scratch);
+    if (scratch == NULL)
+        return 1;
+    FilterboxBuilt built = filterbox_build(list, sizeof list / sizeof *list, table, TABLE_WORDS,
+                                           scratch, scratch_words);
+    free(scratch);
+    if (built.refusal != 0) {
+        printf("refused %" PRIu32 " %" PRIu32 "\n", built.refusal, built.number);
+        return 1;
+    }
+    printf("states %" PRIu32 "\n", built.number);
+    for (uint32_t allowance = 0; allowance <= 2; allowance++) {
+        FilterboxAnswer answer =
+            filterbox_classify(frame, sizeof frame, 0, table, TABLE_WORDS, built.number, allowance);
+        printf("allowance %" PRIu32 ": %s, sure %" PRIu32 ", out %" PRIu32 ", asked %" PRIu32 "\n",
+               allowance, ended[answer.ended], answer.sure, answer.out, answer.asked);
+    }
+    return 0;
+}

@@ -1,0 +1,112 @@
+/*
+ * filterbox: compiles a list of packet filters into a table, and walks frames through the table.
+ *
+ * The library keeps nothing between calls and allocates nothing: all memory is lent by the caller,
+ * who may call it from any thread. It never fails in any other way than by the refusal numbers
+ * below. Pieces of memory that a call is lent must not overlap. A length of 0 still wants a pointer
+ * that is not NULL.
+ */
+#ifndef FILTERBOX_H
+#define FILTERBOX_H
+
+#include <stddef.h>
+#include <stdint.h>
+
+#ifdef __cplusplus
+extern "C" {
+#endif
+
+/* The words of a record, one for each state: kind, field, mask, value, next state if the test holds,
+   if it fails, if the field is absent, then the sure set and the out set (filter i is bit i). */
+#define FILTERBOX_RECORD_WORDS 9
+
+/* The most slots that a table has; words behind them are not used. */
+#define FILTERBOX_MOST_SLOTS 4096
+
+/* The longest frame in bytes that is not refused. */
+#define FILTERBOX_MOST_FRAME 1522
+
+/* What building answers. */
+typedef struct FilterboxBuilt {
+    uint32_t refusal; /* 0 where the table was built, else 1 to 11 */
+    uint32_t number;  /* the number of states; the filter's number for refusals 1 to 9 (32 for 1);
+                         0 for 10 and 11 */
+} FilterboxBuilt;
+
+/* How classifying ended. */
+enum {
+    FILTERBOX_REFUSED = 0, /* see the refusal; all other numbers are 0 */
+    FILTERBOX_DONE = 1,    /* no question is open: the sure set is the match set */
+    FILTERBOX_STOPPED = 2  /* the allowance is used; filters in neither set are open */
+};
+
+/* What classifying answers. */
+typedef struct FilterboxAnswer {
+    uint32_t ended;   /* FILTERBOX_REFUSED, FILTERBOX_DONE or FILTERBOX_STOPPED */
+    uint32_t refusal; /* 0, or 12 or 13 where refused */
+    uint32_t sure;    /* filters that are certainly in the match set */
+    uint32_t out;     /* filters that are certainly not in it */
+    uint32_t asked;   /* the number of questions asked */
+} FilterboxAnswer;
+
+/*
+ * Compiles a list into a table.
+ *
+ * list: for each filter three words (group, level, number of tests), then for each test four words
+ * (kind, field, mask, value). At most 32 filters with at most 8 tests each.
+ * table: its words divided by 9 are the slots, at most 4,096. Each state takes one slot.
+ * scratch: at least filterbox_scratch_words() words for each slot of the table, whether or not the
+ * list needs the slot.
+ * All lengths are in words.
+ *
+ * Answers refusal 0 and the number of states, which filterbox_classify wants to know. Then the
+ * records of the states stand at the beginning of the table, and the table words behind them are as
+ * before. Or it answers one of these refusals, the first that fits as the list is read:
+ *
+ *    1  words follow the 32nd filter           2  the list ends inside a filter
+ *    3  group or level above 255               4  more than 8 tests in a filter
+ *    5  kind not 1 to 4                        6  field above 13
+ *    7  mask 0 with kind 1 or 2, or a mask that is not 0 with kind 3 or 4
+ *    8  mask or value above the field's greatest number
+ *    9  value with bits outside the mask       10  scratch shorter than the slots need
+ *   11  more states than slots
+ *
+ * Refusals 1 to 10 change no word. Refusal 11 leaves zeros in all slots of the table and the words
+ * behind the slots as before. After success and after refusal 11 the slots' part of the scratch is
+ * zero and the rest of the scratch is as before.
+ */
+FilterboxBuilt filterbox_build(const uint32_t *list, size_t list_len, uint32_t *table,
+                               size_t table_len, uint32_t *scratch, size_t scratch_len);
+
+/*
+ * Walks a frame through a table.
+ *
+ * frame: the bytes from the destination address of the Ethernet header on; its length is in bytes.
+ * port: the box port at which the frame came in.
+ * table, states: a table and the number of states that building it answered; the table's length is
+ * in words.
+ * allowance: the most questions that may be asked, any number.
+ *
+ * Answers done or stopped with the two sets and the number of questions asked, or one of these
+ * refusals with zeros there:
+ *
+ *   12  the frame is longer than 1,522 bytes
+ *   13  the table is damaged: the number of states is 0 or above the slots, or a record on the way
+ *       has a kind above 4, or a field above 13 with a kind that is not 0, or the next state is not
+ *       below the number of states
+ *
+ * A short or odd frame is no refusal; fields that it lacks are absent, and no test on an absent
+ * field holds. Nothing lent is written.
+ */
+FilterboxAnswer filterbox_classify(const uint8_t *frame, size_t frame_len, uint8_t port,
+                                   const uint32_t *table, size_t table_len, uint32_t states,
+                                   uint32_t allowance);
+
+/* Answers the number of scratch words that building takes for each slot of the table. */
+uint32_t filterbox_scratch_words(void);
+
+#ifdef __cplusplus
+}
+#endif
+
+#endif

@@ -1,0 +1,157 @@
+//! The reference builder: from a list to the words of table and scratch afterwards
+//! (document 01, "States and the table" and "Refusal numbers").
+
+use std::collections::HashMap;
+
+use crate::fields::full;
+use crate::residue::{fact, residue, Fact, Left, OUTCOMES};
+use crate::rules::{above, read_list, Filter, Test};
+
+/// Kind, field, mask, value, three next states, sure set, out set.
+pub const RECORD_WORDS: usize = 9;
+pub const MOST_SLOTS: usize = 4096;
+/// The most scratch words that a slot may take.
+pub const MOST_SCRATCH_WORDS: usize = 1024;
+
+pub type Record = [u32; RECORD_WORDS];
+
+/// A filter's remaining tests, or none where it is out.
+type Remaining = Option<Vec<Test>>;
+
+/// What is said of each filter.
+pub type State = Vec<Remaining>;
+
+/// What a build answers: refusal 0 and the number of states, or the refusal and the filter's number
+/// or 0. The layout is that of the library's answer.
+#[repr(C)]
+#[derive(Clone, Copy, PartialEq, Eq, Debug)]
+pub struct Built {
+    pub refusal: u32,
+    pub number: u32,
+}
+
+/// The slots that so many table words make.
+pub fn slots(table_words: usize) -> usize {
+    (table_words / RECORD_WORDS).min(MOST_SLOTS)
+}
+
+/// Builds a list in lent words, of which a slot takes so many from the scratch.
+pub fn build(list: &[u32], table: &mut [u32], scratch: &mut [u32], slot_words: usize) -> Built {
+    let filters = match read_list(list) {
+        Ok(filters) => filters,
+        Err(refused) => return Built { refusal: refused.refusal, number: refused.filter },
+    };
+    let slots = slots(table.len());
+    if scratch.len() < slots * slot_words {
+        return Built { refusal: 10, number: 0 };
+    }
+    scratch[..slots * slot_words].fill(0);
+    let Some(records) = records(&filters, slots) else {
+        table[..slots * RECORD_WORDS].fill(0);
+        return Built { refusal: 11, number: 0 };
+    };
+    for (n, record) in records.iter().enumerate() {
+        table[n * RECORD_WORDS..][..RECORD_WORDS].copy_from_slice(record);
+    }
+    Built { refusal: 0, number: records.len() as u32 }
+}
+
+/// The records of all states in the order of their numbers, or none where there are more states
+/// than slots.
+pub fn records(filters: &[Filter], slots: usize) -> Option<Vec<Record>> {
+    let mut building = Building { filters, slots, numbers: HashMap::new(), records: Vec::new() };
+    building.state(start(filters))?;
+    Some(building.records)
+}
+
+struct Building<'a> {
+    filters: &'a [Filter],
+    slots: usize,
+    numbers: HashMap<State, u32>,
+    records: Vec<Record>,
+}
+
+impl Building<'_> {
+    /// The number of a state; a state first met is built, with all that its ways lead to.
+    fn state(&mut self, state: State) -> Option<u32> {
+        if let Some(&number) = self.numbers.get(&state) {
+            return Some(number);
+        }
+        let number = self.records.len();
+        if number == self.slots {
+            return None;
+        }
+        let mut record = [0; RECORD_WORDS];
+        record[7] = sure_set(self.filters, &state);
+        record[8] = out_set(&state);
+        self.records.push(record);
+        self.numbers.insert(state.clone(), number as u32);
+        if let Some(question) = question(&state) {
+            self.records[number][..4].copy_from_slice(&question.words());
+            for (way, outcome) in OUTCOMES.into_iter().enumerate() {
+                let learnt = fact(question, outcome, full(question.field));
+                let next = self.state(step(self.filters, &state, learnt))?;
+                self.records[number][4 + way] = next;
+            }
+        }
+        Some(number as u32)
+    }
+}
+
+/// The state before any question.
+pub fn start(filters: &[Filter]) -> State {
+    let mut state = filters.iter().map(|filter| Some(filter.tests.clone())).collect();
+    drop_beaten(filters, &mut state);
+    state
+}
+
+/// The state after a fact.
+pub fn step(filters: &[Filter], state: &State, learnt: Fact) -> State {
+    let mut next = state.iter().map(|remaining| divide(remaining, learnt)).collect();
+    drop_beaten(filters, &mut next);
+    next
+}
+
+/// A filter's remaining tests after a fact: out where one is false, without those that are true.
+fn divide(remaining: &Remaining, learnt: Fact) -> Remaining {
+    let mut rest = Vec::new();
+    for &test in remaining.as_ref()? {
+        match residue(test, learnt, full(test.field)) {
+            Left::False => return None,
+            Left::True => {}
+            Left::Test(left) => rest.push(left),
+        }
+    }
+    Some(rest)
+}
+
+fn held(remaining: &Remaining) -> bool {
+    remaining.as_ref().is_some_and(Vec::is_empty)
+}
+
+/// Puts out each filter that ranks below a held one, the held ones among them as well.
+fn drop_beaten(filters: &[Filter], state: &mut State) {
+    let holding: Vec<usize> = (0..state.len()).filter(|&i| held(&state[i])).collect();
+    for (i, remaining) in state.iter_mut().enumerate() {
+        if holding.iter().any(|&j| above(filters, j, i)) {
+            *remaining = None;
+        }
+    }
+}
+
+/// The first remaining test of the first filter that has any; none in a final state.
+pub fn question(state: &State) -> Option<Test> {
+    state.iter().flatten().find_map(|tests| tests.first().copied())
+}
+
+pub fn out_set(state: &State) -> u32 {
+    (0..state.len()).filter(|&i| state[i].is_none()).fold(0, |set, i| set | 1 << i)
+}
+
+/// Each held filter above which all are out.
+pub fn sure_set(filters: &[Filter], state: &State) -> u32 {
+    (0..state.len())
+        .filter(|&i| held(&state[i]))
+        .filter(|&i| (0..state.len()).all(|j| !above(filters, j, i) || state[j].is_none()))
+        .fold(0, |set, i| set | 1 << i)
+}

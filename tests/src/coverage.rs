@@ -1,0 +1,89 @@
+//! What a run has met. A number that stays zero means that the run did not try what it says.
+
+use crate::fields::{FIELDS, NAMES};
+use crate::residue::{Outcome, OUTCOMES};
+use crate::rules::Test;
+use crate::walker::Answer;
+
+/// The refusal numbers of the library's calls.
+pub const REFUSALS: usize = 13;
+const KINDS: [&str; 4] = ["equal", "differs", "at most", "at least"];
+const ENDED: [&str; 3] = ["refused", "done", "stopped"];
+
+#[derive(Default)]
+pub struct Coverage {
+    pub lists: u64,
+    pub built: u64,
+    pub states: u64,
+    pub frames: u64,
+    pub answers: u64,
+    refusals: [u64; REFUSALS + 1],
+    kinds: [[u64; 3]; 4],
+    fields: [[u64; 3]; FIELDS],
+    ended: [u64; 3],
+}
+
+impl Coverage {
+    pub fn refusal(&mut self, refusal: u32) {
+        self.refusals[refusal as usize] += 1;
+    }
+
+    pub fn answer(&mut self, answer: &Answer) {
+        self.answers += 1;
+        self.ended[answer.ended as usize] += 1;
+        self.refusal(answer.refusal);
+    }
+
+    pub fn question(&mut self, test: &Test, outcome: Outcome) {
+        let way = OUTCOMES.iter().position(|&o| o == outcome).expect("one of three");
+        self.kinds[test.kind as usize - 1][way] += 1;
+        self.fields[test.field as usize][way] += 1;
+    }
+
+    /// The report, and the names of what was never met.
+    pub fn report(&self) -> (String, Vec<String>) {
+        let mut lines = vec![format!(
+            "lists {}, of which built {} with {} states; frames {}; answers compared {}",
+            self.lists, self.built, self.states, self.frames, self.answers
+        )];
+        let mut missing = Vec::new();
+        let mut line = |name: String, counts: &[u64], never: &[usize]| {
+            for (i, count) in counts.iter().enumerate() {
+                if *count == 0 && !never.contains(&i) {
+                    missing.push(format!("{name}, column {i}"));
+                }
+            }
+            lines.push(format!("{name:<28}{}", columns(counts)));
+        };
+        for refusal in 1..=REFUSALS {
+            line(format!("refusal {refusal}"), &self.refusals[refusal..=refusal], &[]);
+        }
+        for (i, name) in ENDED.iter().enumerate() {
+            line(format!("ended: {name}"), &self.ended[i..=i], &[]);
+        }
+        line("questions: holds, fails, absent".to_string(), &self.outcomes(), &[]);
+        for (i, name) in KINDS.iter().enumerate() {
+            line(format!("kind {}, {name}", i + 1), &self.kinds[i], &[]);
+        }
+        for (i, name) in NAMES.iter().enumerate() {
+            // The box port is given with every frame.
+            let never: &[usize] = if i == 13 { &[2] } else { &[] };
+            line(format!("field {i}, {name}"), &self.fields[i], never);
+        }
+        (lines.join("\n"), missing)
+    }
+
+    fn outcomes(&self) -> [u64; 3] {
+        let mut sums = [0; 3];
+        for kind in &self.kinds {
+            for (sum, count) in sums.iter_mut().zip(kind) {
+                *sum += count;
+            }
+        }
+        sums
+    }
+}
+
+fn columns(counts: &[u64]) -> String {
+    counts.iter().map(|count| format!(" {count:>10}")).collect()
+}

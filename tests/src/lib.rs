@@ -1,0 +1,44 @@
+//! A second reading of document 01, in plain Rust, to compare the proved library with.
+//!
+//! Everything here was written from document 01 alone, never from the definitions or the code that
+//! are proved: where both readings agree on many inputs, a slip in one of them would have to be
+//! made twice.
+//!
+//! - `fields`: what a frame's header fields are
+//! - `rules`: a run of words as a list of filters, refusals 1 to 9, ranks
+//! - `scanner`: the match set, by asking every filter in turn
+//! - `residue`: what is left of a test, line by line
+//! - `brute`: the sets after each outcome, worked out from the whole list each time
+//! - `builder`: states, numbers, records, refusals 10 and 11, the words afterwards
+//! - `walker`: a frame's walk through a table's words, refusals 12 and 13
+//! - `demands`: what the answers for one frame must be at every allowance
+//! - `program`: what the program `compile` prints for a text
+//! - `examples`: lists with known answers
+//! - `random`, `lists`, `frames`: seeded inputs
+//! - `pages`: memory with nothing before and behind it
+//! - `pcap`: the frames of a capture file
+//! - `coverage`, `runner`: what a run has met, and how it is counted
+//! - `tools`: other programs that the tests run, where they are installed
+//! - `ffi`: the library under test
+
+pub mod brute;
+pub mod builder;
+pub mod coverage;
+pub mod demands;
+pub mod examples;
+#[cfg(feature = "library")]
+pub mod ffi;
+pub mod fields;
+pub mod frames;
+pub mod lists;
+#[cfg(feature = "library")]
+pub mod pages;
+pub mod pcap;
+pub mod program;
+pub mod random;
+pub mod residue;
+pub mod rules;
+pub mod runner;
+pub mod scanner;
+pub mod tools;
+pub mod walker;

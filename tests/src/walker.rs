@@ -1,0 +1,64 @@
+//! A frame's walk through a table's words, whoever wrote them
+//! (document 01, "Refusal numbers", the part on classifying).
+
+use crate::builder::{slots, RECORD_WORDS};
+use crate::fields::{read, FIELDS};
+use crate::rules::{Test, AT_LEAST};
+
+/// The longest frame that is not refused.
+pub const MOST_FRAME: usize = 1522;
+
+pub const REFUSED: u32 = 0;
+pub const DONE: u32 = 1;
+pub const STOPPED: u32 = 2;
+
+/// What classifying answers, in the layout of the library's answer.
+#[repr(C)]
+#[derive(Clone, Copy, PartialEq, Eq, Debug)]
+pub struct Answer {
+    pub ended: u32,
+    pub refusal: u32,
+    pub sure: u32,
+    pub out: u32,
+    pub asked: u32,
+}
+
+fn refused(refusal: u32) -> Answer {
+    Answer { ended: REFUSED, refusal, sure: 0, out: 0, asked: 0 }
+}
+
+/// Walks a frame through a table, with so many questions allowed.
+pub fn classify(frame: &[u8], port: u8, table: &[u32], states: u32, allowance: u32) -> Answer {
+    if frame.len() > MOST_FRAME {
+        return refused(12);
+    }
+    if states == 0 || states as usize > slots(table.len()) {
+        return refused(13);
+    }
+    let readings = read(frame, port);
+    let mut number = 0;
+    let mut asked = 0;
+    loop {
+        let record = &table[number as usize * RECORD_WORDS..][..RECORD_WORDS];
+        let question =
+            Test { kind: record[0], field: record[1], mask: record[2], value: record[3] };
+        let final_state = question.kind == 0;
+        if question.kind > AT_LEAST || !final_state && question.field >= FIELDS as u32 {
+            return refused(13);
+        }
+        if final_state || asked == allowance {
+            let ended = if final_state { DONE } else { STOPPED };
+            return Answer { ended, refusal: 0, sure: record[7], out: record[8], asked };
+        }
+        let way = match readings[question.field as usize] {
+            None => 6,
+            Some(x) if question.of(x) => 4,
+            Some(_) => 5,
+        };
+        if record[way] >= states {
+            return refused(13);
+        }
+        number = record[way];
+        asked += 1;
+    }
+}

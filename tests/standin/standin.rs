@@ -1,0 +1,52 @@
+//! A stand-in for the library under test: the bench's plain builder and walker under the library's C
+//! names. The tests are tried on it, and on damaged copies of it that they must not let pass.
+
+#[path = "../../bench/src/plain.rs"]
+mod plain;
+
+use plain::{Answer, Built, WordByWord, SLOT};
+use std::slice::{from_raw_parts, from_raw_parts_mut};
+
+/// # Safety
+/// Each pointer must be good for as many words as the length behind it says.
+#[no_mangle]
+pub unsafe extern "C" fn filterbox_build(
+    list: *const u32,
+    list_len: usize,
+    table: *mut u32,
+    table_len: usize,
+    scratch: *mut u32,
+    scratch_len: usize,
+) -> Built {
+    plain::build::<WordByWord>(
+        from_raw_parts(list, list_len),
+        from_raw_parts_mut(table, table_len),
+        from_raw_parts_mut(scratch, scratch_len),
+    )
+}
+
+/// # Safety
+/// Each pointer must be good for as many words as the length behind it says.
+#[no_mangle]
+pub unsafe extern "C" fn filterbox_classify(
+    frame: *const u8,
+    frame_len: usize,
+    port: u8,
+    table: *const u32,
+    table_len: usize,
+    states: u32,
+    allowance: u32,
+) -> Answer {
+    plain::classify(
+        from_raw_parts(frame, frame_len),
+        port,
+        from_raw_parts(table, table_len),
+        states,
+        allowance,
+    )
+}
+
+#[no_mangle]
+pub extern "C" fn filterbox_scratch_words() -> u32 {
+    SLOT as u32
+}

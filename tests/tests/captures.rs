@@ -1,0 +1,188 @@
+//! Captures of real tools: replayed through the scanner and through tables that the library builds,
+//! and, where libpcap is installed, the scanner against libpcap's own filter for the same rules.
+
+use std::fs;
+use std::path::PathBuf;
+use std::process::Command;
+
+use filterbox_tests::builder::{records, RECORD_WORDS};
+use filterbox_tests::coverage::Coverage;
+use filterbox_tests::demands;
+use filterbox_tests::examples::{echo_in_one_group, test, ECHO};
+use filterbox_tests::ffi;
+use filterbox_tests::fields::read;
+use filterbox_tests::frames::Frame;
+use filterbox_tests::lists::{list, style};
+use filterbox_tests::pcap;
+use filterbox_tests::random::Random;
+use filterbox_tests::rules::{read_list, words, Filter, Test, AT_LEAST, AT_MOST, DIFFERS, EQUAL};
+use filterbox_tests::runner::{Ended, Runner};
+use filterbox_tests::scanner::{filter_holds, match_set};
+use filterbox_tests::tools::{installed, made, root, run};
+
+/// The captures, with the frames in each and how many of them are echo requests as document 01 reads
+/// them: there a later fragment of one counts by its bytes, and none of ours begins with an 8.
+const CAPTURES: [(&str, usize, usize); 4] =
+    [("neighbours", 31, 2), ("icmp", 32, 14), ("tcp", 36, 0), ("udp", 10, 0)];
+const RANDOM_LISTS: usize = 400;
+
+fn main() {
+    let mut runner = Runner::new();
+    let mut coverage = Coverage::default();
+    runner.check("captures_have_their_frames", known_frames);
+    for (name, ..) in CAPTURES {
+        runner.check(&format!("{name}_through_scanner_and_table"), || replay(name, &mut coverage));
+    }
+    runner.attempt("scanner_and_libpcap_agree", against_libpcap);
+    let (report, _) = coverage.report();
+    println!("\n{}\n", report.lines().next().expect("a first line"));
+    runner.finish();
+}
+
+fn file(name: &str) -> PathBuf {
+    root().join("tests/data").join(name)
+}
+
+fn frames(name: &str) -> Vec<Frame> {
+    let path = file(&format!("{name}.pcap"));
+    let bytes = fs::read(&path).unwrap_or_else(|error| panic!("{path:?}: {error}"));
+    let frames = pcap::frames(&bytes).unwrap_or_else(|error| panic!("{path:?}: {error}"));
+    let port = |i: usize| (i % 3) as u8;
+    frames.into_iter().enumerate().map(|(i, bytes)| Frame { bytes, port: port(i) }).collect()
+}
+
+fn known_frames() {
+    let echo = read_list(&ECHO).expect("well-formed");
+    for (name, count, requests) in CAPTURES {
+        let frames = frames(name);
+        assert_eq!(frames.len(), count, "{name}");
+        let matching = |frame: &&Frame| match_set(&echo, &read(&frame.bytes, 0)) & 1 == 1;
+        assert_eq!(frames.iter().filter(matching).count(), requests, "{name}");
+    }
+}
+
+/// The rules that libpcap is asked as well, and lists of many sorts.
+fn lists() -> Vec<Vec<Filter>> {
+    let mut lists: Vec<Vec<Filter>> =
+        [ECHO.to_vec(), echo_in_one_group([3, 2, 1]), echo_in_one_group([1, 2, 3])]
+            .iter()
+            .map(|words| read_list(words).expect("well-formed"))
+            .collect();
+    for (rule, _) in rules() {
+        lists.push(vec![Filter { group: 0, level: 0, tests: rule }]);
+    }
+    for case in 0..RANDOM_LISTS {
+        let random = &mut Random::case(0xCA97, case as u64);
+        lists.push(list(random, style(case, RANDOM_LISTS)));
+    }
+    lists
+}
+
+fn replay(name: &str, coverage: &mut Coverage) {
+    let frames = frames(name);
+    for filters in lists() {
+        let Some(states) = records(&filters, 300).map(|records| records.len()) else { continue };
+        let mut table = vec![7; states * RECORD_WORDS];
+        let mut scratch = vec![7; states * ffi::scratch_words()];
+        let built = ffi::build(&words(&filters), &mut table, &mut scratch);
+        assert_eq!((built.refusal, built.number as usize), (0, states));
+        coverage.lists += 1;
+        coverage.built += 1;
+        coverage.states += states as u64;
+        for frame in &frames {
+            let checked = demands::check(&filters, frame, coverage, |allowance| {
+                ffi::classify(&frame.bytes, frame.port, &table, states as u32, allowance)
+            });
+            checked.unwrap_or_else(|text| panic!("{text}"));
+        }
+    }
+}
+
+/// A libpcap term for the transport part, wherever the IP header ends. Written out, since libpcap's
+/// own names for ports and messages leave later fragments away and document 01 does not.
+fn transport(offset: usize, bytes: usize) -> String {
+    format!("ip[((ip[0] & 0xf) << 2) + {offset}:{bytes}]")
+}
+
+/// Rules as tests of one filter and as an expression of libpcap.
+fn rules() -> Vec<(Vec<Test>, String)> {
+    let tcp = test(EQUAL, 5, 255, 6);
+    let ports = "(ip[9] = 6 or ip[9] = 17)";
+    let left = 0x0A4D_0001;
+    let rule = |tests: &[Test], expression: String| (tests.to_vec(), expression);
+    vec![
+        rule(&[test(EQUAL, 0, 0xFFFF, 0x0806)], "arp".into()),
+        rule(&[test(EQUAL, 0, 0xFFFF, 0x86DD)], "ip6".into()),
+        rule(&[test(EQUAL, 0, 0xFFFF, 0x0800)], "ip".into()),
+        rule(&[test(AT_LEAST, 0, 0, 0x0801)], "ether[12:2] > 0x0800".into()),
+        rule(&[test(EQUAL, 1, 0xFC, 0xB8)], "ip[1] & 0xfc = 0xb8".into()),
+        rule(&[test(AT_LEAST, 2, 0, 500)], "ip[2:2] >= 500".into()),
+        rule(&[test(DIFFERS, 3, 0x3FFF, 0)], "ip[6:2] & 0x3fff != 0".into()),
+        rule(&[test(AT_MOST, 4, 0, 1)], "ip[8] <= 1".into()),
+        rule(&[test(EQUAL, 6, u32::MAX, left)], "ip src 10.77.0.1".into()),
+        rule(&[test(EQUAL, 7, 0xFFFF_FF00, 0x0A4D_0000)], "ip dst net 10.77.0.0/24".into()),
+        rule(&[test(DIFFERS, 7, u32::MAX, left)], "ip and not ip dst 10.77.0.1".into()),
+        rule(&[test(EQUAL, 9, 0xFFFF, 8080)], format!("{ports} and {} = 8080", transport(2, 2))),
+        rule(&[test(AT_MOST, 8, 0, 1023)], format!("{ports} and {} <= 1023", transport(0, 2))),
+        rule(&[test(DIFFERS, 9, 0xFFFF, 53)], format!("{ports} and {} != 53", transport(2, 2))),
+        rule(
+            &[tcp, test(EQUAL, 10, 0x12, 0x02)],
+            format!("ip[9] = 6 and {} & 0x12 = 2", transport(13, 1)),
+        ),
+        rule(&[test(EQUAL, 11, 255, 8)], format!("ip[9] = 1 and {} = 8", transport(0, 1))),
+        rule(
+            &[test(EQUAL, 11, 255, 3), test(EQUAL, 12, 255, 3)],
+            format!("ip[9] = 1 and {} = 0x0303", transport(0, 2)),
+        ),
+    ]
+}
+
+/// The helper, if it can be compiled here.
+fn helper() -> Result<PathBuf, String> {
+    if !installed("gcc") {
+        return Err("gcc is not installed".to_string());
+    }
+    let program = made("match");
+    let source = file("match.c");
+    let compiled = Command::new("gcc")
+        .arg("-Wall")
+        .arg(source)
+        .arg("-lpcap")
+        .arg("-o")
+        .arg(&program)
+        .output()
+        .map_err(|error| error.to_string())?;
+    if compiled.status.success() {
+        return Ok(program);
+    }
+    let said = String::from_utf8_lossy(&compiled.stderr).into_owned();
+    if said.contains("pcap.h") || said.contains("-lpcap") {
+        return Err("libpcap's header or library is not installed".to_string());
+    }
+    panic!("{said}");
+}
+
+fn against_libpcap() -> Ended {
+    let helper = match helper() {
+        Ok(helper) => helper,
+        Err(why) => return Ended::Skipped(why),
+    };
+    for (tests, expression) in rules() {
+        let filter = Filter { group: 0, level: 0, tests };
+        let mut taken = 0;
+        for (name, ..) in CAPTURES {
+            let path = file(&format!("{name}.pcap"));
+            let output = run(Command::new(&helper).arg(path).arg(&expression));
+            let theirs = String::from_utf8_lossy(&output.stdout).trim().to_string();
+            let ours: String = frames(name)
+                .iter()
+                .map(|frame| filter_holds(&filter, &read(&frame.bytes, frame.port)))
+                .map(|holds| if holds { '1' } else { '0' })
+                .collect();
+            assert_eq!(ours, theirs, "{name}: scanner and libpcap's {expression}");
+            taken += ours.matches('1').count();
+        }
+        assert!(taken > 0, "no frame for {expression}");
+    }
+    Ended::Passed
+}

@@ -1,0 +1,37 @@
+//! The static library against the reference, on lists and frames of every sort. A failing case
+//! prints the list, the frame and both answers. At the end comes what the run has met: none of it
+//! may be zero.
+
+mod damage;
+mod edges;
+mod faults;
+mod headers;
+mod numbers;
+mod random_lists;
+mod rooms;
+mod support;
+
+use filterbox_tests::coverage::Coverage;
+use filterbox_tests::runner::Runner;
+
+fn main() {
+    let mut runner = Runner::new();
+    let mut coverage = Coverage::default();
+    numbers::run(&mut runner, &mut coverage);
+    faults::run(&mut runner, &mut coverage);
+    headers::run(&mut runner, &mut coverage);
+    damage::run(&mut runner, &mut coverage);
+    rooms::run(&mut runner, &mut coverage);
+    random_lists::run(&mut runner, &mut coverage);
+    // Last, since a call that leaves its memory ends the run here.
+    edges::run(&mut runner, &mut coverage);
+    let (report, missing) = coverage.report();
+    println!("\nWhat the run has met\n{report}\n");
+    if runner.runs_all() {
+        runner.check("coverage_has_no_zero", || assert!(missing.is_empty(), "{missing:?}"));
+        runner.check("coverage_is_large_enough", || {
+            assert!(coverage.lists >= 20_000 && coverage.frames >= 200_000);
+        });
+    }
+    runner.finish();
+}
