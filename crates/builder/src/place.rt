@@ -60,6 +60,8 @@ fn place_way(
 }
 
 // Builds the ways of the state in slot `at`, each to its end before the next; at most `left` questions follow one another. The words are room for `meet`.
+// The three calls stand a line each, so that they can be read against one another.
+#[rattlefmt::skip]
 pub fn place_state(
     ranks: &[u32],
     n: usize,
@@ -82,44 +84,13 @@ pub fn place_state(
         return Room::Used(used);
     }
     let less = left - 1;
-    let Room::Used(first) = place_way(
-        ranks,
-        n,
-        slots,
-        less,
-        table,
-        scratch,
-        words,
-        at,
-        Outcome::Holds,
-        used,
-    ) else {
+    let holds = place_way(ranks, n, slots, less, table, scratch, words, at, Outcome::Holds, used);
+    let Room::Used(first) = holds else {
         return Room::Full;
     };
-    let Room::Used(second) = place_way(
-        ranks,
-        n,
-        slots,
-        less,
-        table,
-        scratch,
-        words,
-        at,
-        Outcome::Fails,
-        first,
-    ) else {
+    let fails = place_way(ranks, n, slots, less, table, scratch, words, at, Outcome::Fails, first);
+    let Room::Used(second) = fails else {
         return Room::Full;
     };
-    place_way(
-        ranks,
-        n,
-        slots,
-        less,
-        table,
-        scratch,
-        words,
-        at,
-        Outcome::Absent,
-        second,
-    )
+    place_way(ranks, n, slots, less, table, scratch, words, at, Outcome::Absent, second)
 }

@@ -111,13 +111,13 @@ place-state-place-way-requires t c κs =
     let start = c .before .before .before .before .before .before .before .before .before .before .before in
     (subst (λ (j : ℕ). 2 * (start .args .left - 1) + 1 < j) (start .pre .0) (P.way-less (start .args .left) (c .before .before .before .before .before .before .if1 .left)), start .pre .1)
 
-place-state-enum-known-first : (t : ℕ) → place-state-lts.Need-enum-known-first (
+place-state-enum-known-holds : (t : ℕ) → place-state-lts.Need-enum-known-holds (
   asks-reads.Asked,
   asks-reads.Learnt,
   place-way-below t,
   place-way.Post,
 ) (place-state-at t) place-state.Post
-place-state-enum-known-first t c = search needs
+place-state-enum-known-holds t c = search needs
 
 place-state-enum-told : (t : ℕ) → place-state-lts.Need-enum-told (
   asks-reads.Asked,
@@ -177,18 +177,18 @@ place-state-place-way-requires-2 t c κs =
     let a = start .args in
     let more = w .before .before .before .before .before .before .before .if1 .left in
     let asked = sym (w .before .before .before .before .before .asks .ensures) ∙ not-false (w .before .before .before .before .before .asks .result) (w .before .before .before .before .if2 .left) in
-    let f = c .before .before .before .before .first .given in (
+    let f = c .before .before .before .before .holds .given in (
       subst (λ (j : ℕ). 2 * (a .left - 1) + 1 < j) (start .pre .0) (P.way-less (a .left) more),
       (P.ready-second (a .n) (a .slots) (now (a .ranks)) (a .left) (a .at) (a .used) (now (a .table)) (now (a .scratch)) (start .pre .1 .0) more asked (f .0 .0) (w .place-way .result) (w .place-way .last .1 .1 .1 .1 .0) (w .place-way .last .1 .1 .1 .1 .1 .0) (f .1) (w .place-way .ensures) (w .place-way .kept .1 .1 .1 .1 .0) (w .place-way .kept .1 .1 .1 .1 .1 .0), roomy (a .n) _ _ (w .place-way .kept .1 .1 .1 .1 .1 .1 .0) (start .pre .1 .1)),
     )
 
-place-state-enum-known-second : (t : ℕ) → place-state-lts.Need-enum-known-second (
+place-state-enum-known-fails : (t : ℕ) → place-state-lts.Need-enum-known-fails (
   asks-reads.Asked,
   asks-reads.Learnt,
   place-way-below t,
   place-way.Post,
 ) (place-state-at t) place-state.Post
-place-state-enum-known-second t c = search needs
+place-state-enum-known-fails t c = search needs
 
 place-state-enum-told-2 : (t : ℕ) → place-state-lts.Need-enum-told-2 (
   asks-reads.Asked,
@@ -235,7 +235,7 @@ place-state-returns-4 t c =
     let a = start .args in
     let more = w .before .before .before .before .before .before .before .if1 .left in
     let asked = sym (w .before .before .before .before .before .asks .ensures) ∙ not-false (w .before .before .before .before .before .asks .result) (w .before .before .before .before .if2 .left) in
-    let f = v .before .before .before .before .before .first .given in
+    let f = v .before .before .before .before .before .holds .given in
     P.second-full (a .n) (a .slots) (now (a .ranks)) (a .left) (a .at) (a .used) (now (a .table)) (now (a .scratch)) (start .pre .1 .0) more asked (f .0 .0) (w .place-way .result) (w .place-way .last .1 .1 .1 .1 .0) (w .place-way .last .1 .1 .1 .1 .1 .0) (f .1) (w .place-way .ensures)
     (v .place-way2 .result) (v .place-way2 .last .1 .1 .1 .1 .0) (v .place-way2 .last .1 .1 .1 .1 .1 .0) (c .enum-told2 .given .1) (v .place-way2 .ensures)
 
@@ -252,8 +252,8 @@ place-state-place-way-requires-3 t c κs =
     let a = start .args in
     let more = w .before .before .before .before .before .before .before .if1 .left in
     let asked = sym (w .before .before .before .before .before .asks .ensures) ∙ not-false (w .before .before .before .before .before .asks .result) (w .before .before .before .before .if2 .left) in
-    let f = v .before .before .before .before .before .first .given in
-    let g = c .before .before .before .before .second .given in (
+    let f = v .before .before .before .before .before .holds .given in
+    let g = c .before .before .before .before .fails .given in (
       subst (λ (j : ℕ). 2 * (a .left - 1) + 1 < j) (start .pre .0) (P.way-less (a .left) more),
       (
         P.ready-third (a .n) (a .slots) (now (a .ranks)) (a .left) (a .at) (a .used) (now (a .table)) (now (a .scratch)) (start .pre .1 .0) more asked (f .0 .0) (w .place-way .result) (w .place-way .last .1 .1 .1 .1 .0) (w .place-way .last .1 .1 .1 .1 .1 .0) (f .1) (w .place-way .ensures)
@@ -301,8 +301,8 @@ place-state-returns-5 t c =
     let a = start .args in
     let more = w .before .before .before .before .before .before .before .if1 .left in
     let asked = sym (w .before .before .before .before .before .asks .ensures) ∙ not-false (w .before .before .before .before .before .asks .result) (w .before .before .before .before .if2 .left) in
-    let f = v .before .before .before .before .before .first .given in
-    let g = x .before .before .before .before .before .second .given in
+    let f = v .before .before .before .before .before .holds .given in
+    let g = x .before .before .before .before .before .fails .given in
     P.third (a .n) (a .slots) (now (a .ranks)) (a .left) (a .at) (a .used) (now (a .table)) (now (a .scratch)) (start .pre .1 .0) more asked (f .0 .0) (w .place-way .result) (w .place-way .last .1 .1 .1 .1 .0) (w .place-way .last .1 .1 .1 .1 .1 .0) (f .1) (w .place-way .ensures)
     (g .0 .0) (v .place-way2 .result) (v .place-way2 .last .1 .1 .1 .1 .0) (v .place-way2 .last .1 .1 .1 .1 .1 .0) (g .1) (v .place-way2 .ensures)
     (x .place-way3 .result) (x .place-way3 .last .1 .1 .1 .1 .0) (x .place-way3 .last .1 .1 .1 .1 .1 .0) (x .place-way3 .ensures)
@@ -728,14 +728,14 @@ pub +place-state+place-way-spec : {M : Type 1} → statement M
     (place-state-returns-2 t)
     (place-state-sub-less t)
     (place-state-place-way-requires t)
-    (place-state-enum-known-first t)
+    (place-state-enum-known-holds t)
     (place-state-enum-told t)
     (place-state-same-length-2 t)
     (place-state-same-length-3 t)
     (place-state-same-length-4 t)
     (place-state-returns-3 t)
     (place-state-place-way-requires-2 t)
-    (place-state-enum-known-second t)
+    (place-state-enum-known-fails t)
     (place-state-enum-told-2 t)
     (place-state-same-length-5 t)
     (place-state-same-length-6 t)
