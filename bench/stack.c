@@ -1,0 +1,65 @@
+// Stack that filterbox_build takes at the deepest list: one thread on painted memory, lists whose holds ways are 1 to 256 questions long.
+#include <pthread.h>
+#include <stdint.h>
+#include <stdio.h>
+#include <stdlib.h>
+#include <string.h>
+#include "filterbox.h"
+
+
+enum { SLOTS = 4096, STACK = 1 << 20 };
+static _Alignas(65536) unsigned char stack[STACK];
+static uint32_t list[32 * 35], table[9 * SLOTS], scratch[1024 * SLOTS];
+static size_t words;
+static FilterboxBuilt out;
+static unsigned char *entry;
+
+// k tests, 8 a filter: each "source address differs from i", each filter in its own group.
+static void make(unsigned k) {
+    words = 0;
+    for (unsigned i = 0; i < k; i += 8) {
+        unsigned m = k - i < 8 ? k - i : 8;
+        list[words++] = i / 8;
+        list[words++] = 0;
+        list[words++] = m;
+        for (unsigned j = 0; j < m; j++) {
+            list[words++] = 2;
+            list[words++] = 6;
+            list[words++] = 0xffffffff;
+            list[words++] = 1000 + i + j;
+        }
+    }
+}
+
+static void *run(void *x) {
+    unsigned char here;
+    entry = &here;
+    out = filterbox_build(list, words, table, 9 * SLOTS, scratch, 1024 * SLOTS);
+    return x;
+}
+
+static size_t measure(unsigned k) {
+    pthread_t t;
+    pthread_attr_t a;
+    make(k);
+    memset(stack, 0xa5, STACK);
+    pthread_attr_init(&a);
+    if (pthread_attr_setstack(&a, stack, STACK) || pthread_create(&t, &a, run, 0)) exit(1);
+    pthread_join(t, 0);
+    size_t i = 0;
+    while (stack[i] == 0xa5) i++;
+    return (size_t)(entry - (stack + i));
+}
+
+int main(void) {
+    measure(1);
+    size_t first = 0, last = 0;
+    for (unsigned k = 0; k <= 256; k += k < 8 ? 1 : 31) {
+        size_t s = measure(k);
+        printf("questions %3u: %6zu bytes, refusal %u, number %u\n", k, s, out.refusal, out.number);
+        if (k == 8) first = s;
+        last = s;
+    }
+    printf("bytes a level: %.1f\n", (double)(last - first) / 248);
+    return 0;
+}
