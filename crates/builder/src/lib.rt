@@ -6,10 +6,10 @@ ghost use Rattle.lists.specs.Refusals.{listed};
 ghost use Rattle.lists.specs.declared.Listed.the-variants.{Accepted};
 ghost use Rattle.builder.specs.Outcome.{Answered, accepted, outcome};
 
-pub mod meet;
-pub mod place;
-pub mod start;
-pub mod words;
+mod meet;
+mod place;
+mod start;
+mod words;
 
 // The number of states, or a refusal's number with the filter's number or 0.
 pub enum Built {

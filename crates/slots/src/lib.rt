@@ -16,7 +16,7 @@ use filter::TEST_WORDS;
 use residue::Fact;
 use residue::Outcome;
 
-pub mod filter;
+mod filter;
 
 // The first word of a held filter.
 const HELD: u32 = 0;
