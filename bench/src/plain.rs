@@ -73,13 +73,23 @@ pub trait Compare {
     fn same(a: &[u32], b: &[u32]) -> bool;
 }
 
-/// Word by word up to the first difference.
+/// Word by word up to the first difference, written in eights. As one plain loop it runs up to 1.4
+/// times as long or not, as the compiler happens to inline it, and a slow yardstick flatters what is
+/// held against it.
 pub struct WordByWord;
 
 impl Compare for WordByWord {
     #[inline(always)]
     fn same(a: &[u32], b: &[u32]) -> bool {
-        a.iter().zip(b).all(|(x, y)| x == y)
+        let (mut eights, mut others) = (a.chunks_exact(8), b.chunks_exact(8));
+        for (x, y) in eights.by_ref().zip(others.by_ref()) {
+            for i in 0..8 {
+                if x[i] != y[i] {
+                    return false;
+                }
+            }
+        }
+        eights.remainder() == others.remainder()
     }
 }
 
