@@ -3,4 +3,5 @@
 #include <stddef.h>
 long read(int, void *, size_t);
 long write(int, const void *, size_t);
+_Noreturn void _exit(int);
 #endif
