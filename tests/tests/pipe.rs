@@ -99,8 +99,7 @@ fn lengths() {
 
 /// Touches one byte, counted from the room's first, by reading or by writing it.
 fn touch(place: Place, room: Room, at: i32, write: bool) -> Result<u32, String> {
-    let call =
-        Call { call: pipe::OVERRUN, place, numbers: &[at as u32, u32::from(write)] };
+    let call = Call { call: pipe::OVERRUN, place, numbers: &[at as u32, u32::from(write)] };
     pipe::attempt(call, &mut [room]).map(|words| words[0])
 }
 
