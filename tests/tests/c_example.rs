@@ -5,7 +5,7 @@ use std::path::{Path, PathBuf};
 use std::process::Command;
 
 use filterbox_tests::runner::{Ended, Runner};
-use filterbox_tests::tools::{archive, installed, made, root, run};
+use filterbox_tests::tools::{archive, installed, made, of_the_toolchain, root, run};
 
 const PRINTED: &str = "\
 states 10
@@ -19,7 +19,8 @@ const FLAGS: [&str; 5] = ["-std=c99", "-Wall", "-Wextra", "-pedantic", "-Werror"
 
 fn main() {
     let mut runner = Runner::new();
-    runner.check("the_c_example_runs_by_the_toolchains_compiler", by_the_toolchain);
+    let name = "the_c_example_runs_by_the_toolchains_compiler";
+    runner.attempt(name, of_the_toolchain(by_the_toolchain));
     runner.attempt("the_c_example_compiles_and_runs", with_gcc(by_gcc));
     runner.attempt("the_header_stands_alone_in_c_and_cpp", with_gcc(header_alone));
     runner.finish();

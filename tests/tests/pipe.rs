@@ -11,6 +11,7 @@ use filterbox_tests::pipe::{self, Call, Place, Room};
 use filterbox_tests::random::Random;
 use filterbox_tests::rules::{read_list, words};
 use filterbox_tests::runner::Runner;
+use filterbox_tests::tools::of_the_toolchain;
 use filterbox_tests::walker;
 
 const SEED: u64 = 0x919E;
@@ -20,16 +21,23 @@ const PLACES: [Place; 3] = [Place::Middle, Place::Front, Place::Back];
 fn main() {
     let mut runner = Runner::new();
     println!("held against the library {}, {CASES} lists", library().way());
-    runner.check("the_pipe_gives_the_librarys_answers", || {
-        assert_eq!(Library::piped().scratch_words(), library().scratch_words());
-        for case in 0..CASES {
-            one_case(case);
-        }
-    });
-    runner.check("the_pipe_takes_rooms_of_any_length", lengths);
-    runner.check("the_far_end_sees_a_write_beside_a_room", written_beside);
-    runner.check("a_call_that_leaves_its_pages_ends_the_far_end_alone", left_pages);
+    let checks: [(&str, fn()); 4] = [
+        ("the_pipe_gives_the_librarys_answers", answers),
+        ("the_pipe_takes_rooms_of_any_length", lengths),
+        ("the_far_end_sees_a_write_beside_a_room", written_beside),
+        ("a_call_that_leaves_its_pages_ends_the_far_end_alone", left_pages),
+    ];
+    for (name, check) in checks {
+        runner.attempt(name, of_the_toolchain(check));
+    }
     runner.finish();
+}
+
+fn answers() {
+    assert_eq!(Library::piped().scratch_words(), library().scratch_words());
+    for case in 0..CASES {
+        one_case(case);
+    }
 }
 
 /// A build by all three; the words are old ones that must not matter.
