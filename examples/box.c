@@ -3,6 +3,10 @@
  * library is built:
  *
  *   gcc -Wall -Iinclude examples/box.c target/staticlib/libfilterbox.a -o box && ./box
+ *
+ * or on any processor, with the toolchain alone:
+ *
+ *   tests/pipe/compile examples/box.c box && scripts/run-program ./box
  */
 #include <inttypes.h>
 #include <stdio.h>

@@ -2,20 +2,25 @@
 //!
 //! - `filterbox-bench`: nanoseconds a frame for three lists, and build times, as two small tables;
 //! - `filterbox-bench count CASE WHO N`: classifies N frames of a case (a, b, c) with one contender
-//!   (library, in-turn, sorted, walk) and nothing else, for counting instructions.
+//!   (library, in-turn, sorted, walk) and nothing else, for counting instructions;
+//! - `filterbox-bench far CASE CALL N`: the same over the pipe of the tests, where the library cannot
+//!   be linked: CALL is classify, or nothing, which does all but the call.
 //!
 //! Contenders take turns in short rounds and each number is the median of its rounds, so that what
 //! else the machine does falls on all of them alike. Times are of the processor, not of the wall.
 
 mod clock;
-mod library;
 mod lists;
+#[path = "../../tests/src/pipe.rs"]
+#[allow(dead_code)]
+mod pipe;
 mod plain;
 mod scanner;
 
 use std::env;
 use std::hint::black_box;
 
+use filterbox_sys as library;
 use lists::{Packet, Random, FRAME};
 use plain::{AsSlices, Built, WordByWord, RECORD};
 use scanner::{InTurn, Sorted};
@@ -34,10 +39,9 @@ struct Case {
 
 impl Case {
     fn new(name: &'static str, list: Vec<u32>, packet: fn(&mut Random) -> Packet) -> Case {
-        let slots = 4096;
-        let mut table = vec![0; slots * RECORD];
-        let mut scratch = vec![0; slots * library::scratch_words()];
-        let built = library::build(&list, &mut table, &mut scratch);
+        let mut table = vec![0; plain::MOST_SLOTS * RECORD];
+        let mut scratch = vec![0; plain::MOST_SLOTS * plain::SLOT];
+        let built = plain::build::<AsSlices>(&list, &mut table, &mut scratch);
         assert_eq!(built.refusal, 0, "{name} is built");
         table.truncate(built.number as usize * RECORD);
         let random = &mut Random(2_024);
@@ -85,6 +89,7 @@ fn classify_table(cases: &[Case]) {
         let (in_turn, sorted) = (InTurn::new(&case.list), Sorted::new(&case.list));
         let walk = |frame: &[u8]| plain::classify(frame, 0, &case.table, case.states, u32::MAX);
         let ours = |frame: &[u8]| library::classify(frame, 0, &case.table, case.states, u32::MAX);
+        assert!(case.table == built_by_the_library(case), "{}: the same table", case.name);
         let sets = case.sets(|frame| in_turn.scan_in_turn(frame, 0));
         assert!(sets == case.sets(|frame| sorted.scan_sorted(frame, 0)));
         assert!(sets == case.sets(|frame| walk(frame).sure));
@@ -105,6 +110,13 @@ fn classify_table(cases: &[Case]) {
         }
         println!();
     }
+}
+
+fn built_by_the_library(case: &Case) -> Vec<u32> {
+    let mut table = vec![0; case.table.len()];
+    let mut scratch = vec![0; case.states as usize * library::scratch_words()];
+    assert_eq!(library::build(&case.list, &mut table, &mut scratch).number, case.states);
+    table
 }
 
 type Build = fn(&[u32], &mut [u32], &mut [u32]) -> Built;
@@ -160,11 +172,27 @@ fn states(list: &[u32]) -> usize {
     built.number as usize
 }
 
+fn case(name: &str) -> Case {
+    let found = cases().into_iter().find(|known| known.name.starts_with(name));
+    found.unwrap_or_else(|| panic!("no case {name}"))
+}
+
+/// Classifies so many frames over the pipe, or does all but that.
+fn far(case: &Case, call: &str, frames: usize) {
+    let call = match call {
+        "classify" => pipe::CLASSIFY,
+        "nothing" => pipe::NOTHING,
+        _ => panic!("no call {call}"),
+    };
+    for frame in case.frames.iter().cycle().take(frames) {
+        let numbers = &[0, case.states, u32::MAX];
+        let rooms = &mut [pipe::Room::Bytes(frame), pipe::Room::Shown(&case.table)];
+        pipe::call(pipe::Call { call, place: pipe::Place::Middle, numbers }, rooms);
+    }
+}
+
 /// Classifies so many frames with one contender only.
-fn count(case: &str, who: &str, frames: usize) {
-    let cases = cases();
-    let found = cases.iter().find(|known| known.name.starts_with(case));
-    let case = found.unwrap_or_else(|| panic!("no case {case}"));
+fn count(case: &Case, who: &str, frames: usize) {
     let (in_turn, sorted) = (InTurn::new(&case.list), Sorted::new(&case.list));
     let mut sum = 0u32;
     for frame in case.frames.iter().cycle().take(frames) {
@@ -187,7 +215,8 @@ fn main() {
             classify_table(&cases());
             build_table();
         }
-        ["count", case, who, frames] => count(case, who, frames.parse().expect("a number")),
-        _ => panic!("usage: filterbox-bench [count CASE WHO FRAMES]"),
+        ["count", name, who, frames] => count(&case(name), who, frames.parse().expect("a number")),
+        ["far", name, call, frames] => far(&case(name), call, frames.parse().expect("a number")),
+        _ => panic!("usage: filterbox-bench [count CASE WHO FRAMES | far CASE CALL FRAMES]"),
     }
 }

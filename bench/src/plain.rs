@@ -4,6 +4,8 @@
 //!
 //! Bounds are tested as Rust tests them. Nothing is allocated.
 
+pub use filterbox_sys::{Answer, Built};
+
 /// Kind, field, mask, value, three next states, sure set, out set.
 pub const RECORD: usize = 9;
 pub const MOST_SLOTS: usize = 4096;
@@ -23,23 +25,6 @@ const EQUAL: u32 = 1;
 const DIFFERS: u32 = 2;
 const AT_MOST: u32 = 3;
 const AT_LEAST: u32 = 4;
-
-#[repr(C)]
-#[derive(Clone, Copy, PartialEq, Eq, Debug)]
-pub struct Built {
-    pub refusal: u32,
-    pub number: u32,
-}
-
-#[repr(C)]
-#[derive(Clone, Copy, PartialEq, Eq, Debug)]
-pub struct Answer {
-    pub ended: u32,
-    pub refusal: u32,
-    pub sure: u32,
-    pub out: u32,
-    pub asked: u32,
-}
 
 fn full(field: u32) -> u32 {
     u32::MAX >> (32 - WIDTHS[field as usize])

@@ -3,6 +3,10 @@
 
 use std::collections::HashMap;
 
+/// What a build answers: refusal 0 and the number of states, or the refusal and the filter's number
+/// or 0.
+pub use filterbox_sys::Built;
+
 use crate::fields::full;
 use crate::residue::{fact, residue, Fact, Left, OUTCOMES};
 use crate::rules::{above, read_list, Filter, Test};
@@ -20,15 +24,6 @@ type Remaining = Option<Vec<Test>>;
 
 /// What is said of each filter.
 pub type State = Vec<Remaining>;
-
-/// What a build answers: refusal 0 and the number of states, or the refusal and the filter's number
-/// or 0. The layout is that of the library's answer.
-#[repr(C)]
-#[derive(Clone, Copy, PartialEq, Eq, Debug)]
-pub struct Built {
-    pub refusal: u32,
-    pub number: u32,
-}
 
 /// The slots that so many table words make.
 pub fn slots(table_words: usize) -> usize {

@@ -15,25 +15,29 @@
 //! - `program`: what the program `compile` prints for a text
 //! - `examples`: lists with known answers
 //! - `random`, `lists`, `frames`: seeded inputs
-//! - `pages`: memory with nothing before and behind it
 //! - `pcap`: the frames of a capture file
 //! - `coverage`, `runner`: what a run has met, and how it is counted
 //! - `tools`: other programs that the tests run, where they are installed
-//! - `ffi`: the library under test
+//! - `library`: the library under test, linked or over the pipe
+//! - `pipe`, `pages`: the way over the pipe; memory with nothing before and behind it
+//! - `cases`: how many cases a check tries
 
 pub mod brute;
 pub mod builder;
+pub mod cases;
 pub mod coverage;
 pub mod demands;
 pub mod examples;
-#[cfg(feature = "library")]
-pub mod ffi;
 pub mod fields;
 pub mod frames;
+#[cfg(feature = "library")]
+pub mod library;
 pub mod lists;
 #[cfg(feature = "library")]
-pub mod pages;
+mod pages;
 pub mod pcap;
+#[cfg(feature = "library")]
+pub mod pipe;
 pub mod program;
 pub mod random;
 pub mod residue;

@@ -4,6 +4,8 @@ use std::env;
 use std::path::{Path, PathBuf};
 use std::process::{Command, Output};
 
+use crate::runner::Ended;
+
 /// The repository's root.
 pub fn root() -> PathBuf {
     Path::new(env!("CARGO_MANIFEST_DIR")).join("..")
@@ -22,6 +24,17 @@ pub fn archive() -> PathBuf {
 pub fn made(name: &str) -> PathBuf {
     let program = env::current_exe().expect("the running test has a path");
     program.parent().expect("it lies in a folder").join(name)
+}
+
+/// A check of the library that the toolchain made; a stand-in is only linked, and then there is none.
+pub fn of_the_toolchain(check: impl FnOnce()) -> impl FnOnce() -> Ended {
+    move || {
+        if env::var_os("FILTERBOX_LIB_DIR").is_some() {
+            return Ended::Skipped("FILTERBOX_LIB_DIR names a library that is only linked".into());
+        }
+        check();
+        Ended::Passed
+    }
 }
 
 /// Whether a program answers at all.

@@ -1,6 +1,8 @@
 //! A frame's walk through a table's words, whoever wrote them
 //! (document 01, "Refusal numbers", the part on classifying).
 
+pub use filterbox_sys::Answer;
+
 use crate::builder::{slots, RECORD_WORDS};
 use crate::fields::{read, FIELDS};
 use crate::rules::{Test, AT_LEAST};
@@ -11,17 +13,6 @@ pub const MOST_FRAME: usize = 1522;
 pub const REFUSED: u32 = 0;
 pub const DONE: u32 = 1;
 pub const STOPPED: u32 = 2;
-
-/// What classifying answers, in the layout of the library's answer.
-#[repr(C)]
-#[derive(Clone, Copy, PartialEq, Eq, Debug)]
-pub struct Answer {
-    pub ended: u32,
-    pub refusal: u32,
-    pub sure: u32,
-    pub out: u32,
-    pub asked: u32,
-}
 
 fn refused(refusal: u32) -> Answer {
     Answer { ended: REFUSED, refusal, sure: 0, out: 0, asked: 0 }

@@ -50,3 +50,8 @@ pub unsafe extern "C" fn filterbox_classify(
 pub extern "C" fn filterbox_scratch_words() -> u32 {
     SLOT as u32
 }
+
+// Each is what the interface declares.
+const _: filterbox_sys::types::filterbox_build = filterbox_build;
+const _: filterbox_sys::types::filterbox_classify = filterbox_classify;
+const _: filterbox_sys::types::filterbox_scratch_words = filterbox_scratch_words;

@@ -1,9 +1,11 @@
-//! The C header and the C example: compiled with gcc against the library, and run.
+//! The C header and the C example: compiled against the library and run, by the toolchain's own
+//! compiler and by gcc.
 
+use std::path::{Path, PathBuf};
 use std::process::Command;
 
 use filterbox_tests::runner::{Ended, Runner};
-use filterbox_tests::tools::{archive, installed, made, root, run};
+use filterbox_tests::tools::{archive, installed, made, of_the_toolchain, root, run};
 
 const PRINTED: &str = "\
 states 10
@@ -17,7 +19,9 @@ const FLAGS: [&str; 5] = ["-std=c99", "-Wall", "-Wextra", "-pedantic", "-Werror"
 
 fn main() {
     let mut runner = Runner::new();
-    runner.attempt("the_c_example_compiles_and_runs", with_gcc(example));
+    let name = "the_c_example_runs_by_the_toolchains_compiler";
+    runner.attempt(name, of_the_toolchain(by_the_toolchain));
+    runner.attempt("the_c_example_compiles_and_runs", with_gcc(by_gcc));
     runner.attempt("the_header_stands_alone_in_c_and_cpp", with_gcc(header_alone));
     runner.finish();
 }
@@ -32,19 +36,35 @@ fn with_gcc(check: fn()) -> impl FnOnce() -> Ended {
     }
 }
 
-fn example() {
-    let program = made("box");
-    let include = root().join("include");
-    run(Command::new("gcc")
-        .args(FLAGS)
-        .arg("-I")
-        .arg(include)
-        .arg(root().join("examples/box.c"))
-        .arg(archive())
-        .arg("-o")
-        .arg(&program));
-    let output = run(&mut Command::new(&program));
+fn source() -> PathBuf {
+    root().join("examples/box.c")
+}
+
+fn prints(program: &Path) {
+    let output = run(Command::new(root().join("scripts/run-program")).arg(program));
     assert_eq!(String::from_utf8_lossy(&output.stdout), PRINTED);
+}
+
+/// As on every processor, with nothing installed.
+fn by_the_toolchain() {
+    let program = made("box");
+    run(Command::new(root().join("tests/pipe/compile")).arg(source()).arg(&program).args(FLAGS));
+    prints(&program);
+}
+
+/// As a customer compiles it. A gcc of another processor reads example and header as well, but what
+/// it makes cannot have the library in it.
+fn by_gcc() {
+    let mut gcc = Command::new("gcc");
+    gcc.args(FLAGS).arg("-I").arg(root().join("include")).arg(source());
+    let machine = run(Command::new("gcc").arg("-dumpmachine"));
+    if !machine.stdout.starts_with(b"x86_64") {
+        run(gcc.arg("-fsyntax-only"));
+        return;
+    }
+    let program = made("box_by_gcc");
+    run(gcc.arg(archive()).arg("-o").arg(&program));
+    prints(&program);
 }
 
 fn header_alone() {

@@ -9,9 +9,9 @@ use filterbox_tests::builder::{records, RECORD_WORDS};
 use filterbox_tests::coverage::Coverage;
 use filterbox_tests::demands;
 use filterbox_tests::examples::{echo_in_one_group, test, ECHO};
-use filterbox_tests::ffi;
 use filterbox_tests::fields::read;
 use filterbox_tests::frames::Frame;
+use filterbox_tests::library::library;
 use filterbox_tests::lists::{list, style};
 use filterbox_tests::pcap;
 use filterbox_tests::random::Random;
@@ -83,15 +83,15 @@ fn replay(name: &str, coverage: &mut Coverage) {
     for filters in lists() {
         let Some(states) = records(&filters, 300).map(|records| records.len()) else { continue };
         let mut table = vec![7; states * RECORD_WORDS];
-        let mut scratch = vec![7; states * ffi::scratch_words()];
-        let built = ffi::build(&words(&filters), &mut table, &mut scratch);
+        let mut scratch = vec![7; states * library().scratch_words()];
+        let built = library().build(&words(&filters), &mut table, &mut scratch);
         assert_eq!((built.refusal, built.number as usize), (0, states));
         coverage.lists += 1;
         coverage.built += 1;
         coverage.states += states as u64;
         for frame in &frames {
             let checked = demands::check(&filters, frame, coverage, |allowance| {
-                ffi::classify(&frame.bytes, frame.port, &table, states as u32, allowance)
+                library().classify(&frame.bytes, frame.port, &table, states as u32, allowance)
             });
             checked.unwrap_or_else(|text| panic!("{text}"));
         }

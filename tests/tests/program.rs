@@ -1,5 +1,6 @@
-//! The program `compile`: what it prints for many texts. Its path is target/bin/compile in the
-//! repository, or what FILTERBOX_COMPILE says; where it is not built, the checks are skipped.
+//! The program `compile`: what it prints for many texts. It is target/bin/compile in the repository,
+//! run by scripts/run-program as on every processor, or what FILTERBOX_COMPILE says, which this
+//! machine runs itself; where it is not built, the checks are skipped.
 
 use std::env;
 use std::io::Write;
@@ -8,6 +9,7 @@ use std::process::{Command, Stdio};
 use std::thread::sleep;
 use std::time::Duration;
 
+use filterbox_tests::cases::RANDOM_TEXTS;
 use filterbox_tests::examples::{behind_impossible, empty_filters, one_bit_tests, ECHO};
 use filterbox_tests::lists::{self, style};
 use filterbox_tests::program::{compile, MOST_TEXT};
@@ -64,6 +66,7 @@ const NO_ITEMS: [&str; 26] = [
 
 fn main() {
     let mut runner = Runner::new();
+    RANDOM_TEXTS.tell();
     let checks: [(&str, Check); 9] = [
         ("program_prints_the_example", example),
         ("program_gives_each_refusal", refusals),
@@ -89,20 +92,22 @@ fn main() {
 
 type Check = fn(&Program);
 
-struct Program(PathBuf);
+/// What is run, and the words behind it.
+struct Program(PathBuf, &'static [&'static str]);
 
 impl Program {
     fn find() -> Option<Program> {
-        let path = match env::var_os("FILTERBOX_COMPILE") {
-            Some(path) => PathBuf::from(path),
-            None => root().join("target/bin/compile"),
-        };
-        path.is_file().then_some(Program(path))
+        if let Some(path) = env::var_os("FILTERBOX_COMPILE").map(PathBuf::from) {
+            return path.is_file().then_some(Program(path, &[]));
+        }
+        let built = root().join("target/bin/compile").is_file();
+        built.then(|| Program(root().join("scripts/run-program"), &["compile"]))
     }
 
     /// What the program prints for a text that comes in these pieces.
     fn print(&self, pieces: &[&[u8]]) -> String {
         let mut child = Command::new(&self.0)
+            .args(self.1)
             .stdin(Stdio::piped())
             .stdout(Stdio::piped())
             .spawn()
@@ -249,10 +254,10 @@ fn pieces(program: &Program) {
 }
 
 fn random_lists(program: &Program) {
-    const CASES: usize = 600;
-    for case in 0..CASES {
+    let texts = RANDOM_TEXTS.count();
+    for case in 0..texts {
         let random = &mut Random::case(0xC0_4711E, case as u64);
-        let style = style(case, CASES);
+        let style = style(case, texts);
         let list = if random.once_in(2) {
             lists::faulty(random, style)
         } else {

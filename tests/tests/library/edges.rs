@@ -1,13 +1,13 @@
 //! Lent memory that ends at a forbidden page: the calls must stay inside it, and classifying must not
-//! write. A call that does not stops the whole run, at the check whose name was printed last.
+//! write. A linked call that does not stops the whole run, at the check whose name was printed last.
 
 use filterbox_tests::builder::{self, records, RECORD_WORDS};
 use filterbox_tests::coverage::Coverage;
 use filterbox_tests::examples::{empty_filters, ECHO};
-use filterbox_tests::ffi;
 use filterbox_tests::frames::{towards, Frame};
+use filterbox_tests::library::library;
 use filterbox_tests::lists::{list, style};
-use filterbox_tests::pages::{End, Pages};
+use filterbox_tests::pipe::Place;
 use filterbox_tests::random::Random;
 use filterbox_tests::rules::{read_list, words};
 use filterbox_tests::runner::Runner;
@@ -16,7 +16,8 @@ use filterbox_tests::walker::{self, MOST_FRAME};
 use crate::support::note_build;
 
 const SEED: u64 = 0xED6E;
-const ENDS: [End; 2] = [End::Front, End::Back];
+const LISTS: usize = 400;
+const ENDS: [Place; 2] = [Place::Front, Place::Back];
 
 pub fn run(runner: &mut Runner, coverage: &mut Coverage) {
     runner.check("builds_stay_inside_their_rooms", || builds(coverage));
@@ -25,20 +26,15 @@ pub fn run(runner: &mut Runner, coverage: &mut Coverage) {
 }
 
 /// Builds in memory of exactly the lengths that are told, old words included.
-fn build_at(list: &[u32], slots: usize, odd: usize, end: End, coverage: &mut Coverage) {
-    let table = vec![0xAAAA_AAAA; slots * RECORD_WORDS + odd];
-    let scratch = vec![0x5555_5555; slots * ffi::scratch_words()];
-    let (mut shown, mut lent, mut more) =
-        (Pages::new(4 * list.len()), Pages::new(4 * table.len()), Pages::new(4 * scratch.len()));
-    let list = shown.show(list, end);
-    let table = lent.lend(&table, end);
-    let scratch = more.lend(&scratch, end);
-    let (mut table_should, mut scratch_should) = (table.to_vec(), scratch.to_vec());
-    let built = ffi::build(list, table, scratch);
-    let slot_words = ffi::scratch_words();
+fn build_at(list: &[u32], slots: usize, odd: usize, end: Place, coverage: &mut Coverage) {
+    let slot_words = library().scratch_words();
+    let mut table = vec![0xAAAA_AAAA; slots * RECORD_WORDS + odd];
+    let mut scratch = vec![0x5555_5555; slots * slot_words];
+    let (mut table_should, mut scratch_should) = (table.clone(), scratch.clone());
+    let built = library().at(end).build(list, &mut table, &mut scratch);
     let should = builder::build(list, &mut table_should, &mut scratch_should, slot_words);
     assert!(built == should, "got {built:?}, should be {should:?} for {list:?}");
-    assert!(*table == table_should && *scratch == scratch_should, "{list:?}");
+    assert!(table == table_should && scratch == scratch_should, "{list:?}");
     note_build(built, coverage);
 }
 
@@ -52,9 +48,9 @@ fn builds(coverage: &mut Coverage) {
             build_at(&ECHO[..cut], 2, 0, end, coverage);
         }
         build_at(&empty_filters(33), 1, 0, end, coverage);
-        for case in 0..400 {
-            let random = &mut Random::case(SEED, case);
-            let filters = list(random, style(case as usize, 400));
+        for case in 0..LISTS {
+            let random = &mut Random::case(SEED, case as u64);
+            let filters = list(random, style(case, LISTS));
             let Some(records) = records(&filters, 100) else { continue };
             for fewer in [0, 1] {
                 let slots = records.len() - fewer;
@@ -65,36 +61,26 @@ fn builds(coverage: &mut Coverage) {
 }
 
 /// The library's answer from memory of exactly these lengths that cannot be written.
-fn classify_at(
-    pages: &mut [Pages; 2],
-    frame: &Frame,
-    table: &[u32],
-    end: End,
-    coverage: &mut Coverage,
-) {
+fn classify_at(frame: &Frame, table: &[u32], end: Place, coverage: &mut Coverage) {
     let states = (table.len() / RECORD_WORDS) as u32;
-    let [shown, lent] = pages;
-    let bytes = shown.show(&frame.bytes, end);
-    let table = lent.show(table, end);
     coverage.frames += 1;
     for allowance in [0, 1, 3, u32::MAX] {
-        let answer = ffi::classify(bytes, frame.port, table, states, allowance);
-        let should = walker::classify(bytes, frame.port, table, states, allowance);
+        let answer = library().at(end).classify(&frame.bytes, frame.port, table, states, allowance);
+        let should = walker::classify(&frame.bytes, frame.port, table, states, allowance);
         assert!(answer == should, "got {answer:?}, should be {should:?} for {frame:?}");
         coverage.answer(&answer);
     }
 }
 
 fn classifying(coverage: &mut Coverage) {
-    let mut pages = [Pages::new(4 * MOST_FRAME), Pages::new(4 * 100 * RECORD_WORDS)];
-    for case in 0..400 {
-        let random = &mut Random::case(SEED ^ 1, case);
-        let filters = list(random, style(case as usize, 400));
+    for case in 0..LISTS {
+        let random = &mut Random::case(SEED ^ 1, case as u64);
+        let filters = list(random, style(case, LISTS));
         let Some(records) = records(&filters, 100) else { continue };
         for end in ENDS {
             for _ in 0..5 {
                 let frame = towards(random, &filters);
-                classify_at(&mut pages, &frame, &records.concat(), end, coverage);
+                classify_at(&frame, &records.concat(), end, coverage);
             }
         }
     }
@@ -102,7 +88,6 @@ fn classifying(coverage: &mut Coverage) {
 
 /// Packets of each protocol whose headers reach to the very end, and such as claim to reach further.
 fn each_length(coverage: &mut Coverage) {
-    let mut pages = [Pages::new(4 * MOST_FRAME), Pages::new(4 * 100 * RECORD_WORDS)];
     let filters = [9, 10, 12].map(|field| [field, 0, 1, 4, field, 0, 0]).concat();
     let filters = read_list(&filters).expect("well-formed");
     let table = records(&filters, 100).expect("few states").concat();
@@ -124,7 +109,7 @@ fn each_length(coverage: &mut Coverage) {
             }
             for end in ENDS {
                 let frame = Frame { bytes: bytes.clone(), port: 1 };
-                classify_at(&mut pages, &frame, &table, end, coverage);
+                classify_at(&frame, &table, end, coverage);
             }
         }
     }

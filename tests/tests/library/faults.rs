@@ -3,8 +3,8 @@
 use filterbox_tests::builder::RECORD_WORDS;
 use filterbox_tests::coverage::Coverage;
 use filterbox_tests::examples::{empty_filters, test, ECHO};
-use filterbox_tests::ffi;
 use filterbox_tests::fields::{full, FIELDS};
+use filterbox_tests::library::library;
 use filterbox_tests::lists::{self, places, style, Style};
 use filterbox_tests::random::Random;
 use filterbox_tests::rules::{
@@ -281,7 +281,7 @@ fn random_lists(coverage: &mut Coverage) {
         let random = &mut Random::case(SEED ^ 1, case as u64);
         let list = lists::faulty(random, style(case, RANDOM_LISTS));
         let slots = random.between(0, 30);
-        let need = slots * ffi::scratch_words();
+        let need = slots * library().scratch_words();
         let scratch = random.pick(&[need, need, need.saturating_sub(1), need / 2, 0]);
         build(&list, slots * RECORD_WORDS, scratch, coverage);
     }

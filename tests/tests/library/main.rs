@@ -11,11 +11,15 @@ mod random_lists;
 mod rooms;
 mod support;
 
+use filterbox_tests::cases::RANDOM_LISTS;
 use filterbox_tests::coverage::Coverage;
+use filterbox_tests::library::library;
 use filterbox_tests::runner::Runner;
 
 fn main() {
     let mut runner = Runner::new();
+    println!("the library is {}", library().way());
+    RANDOM_LISTS.tell();
     let mut coverage = Coverage::default();
     numbers::run(&mut runner, &mut coverage);
     faults::run(&mut runner, &mut coverage);

@@ -6,9 +6,9 @@ use filterbox_tests::examples::{
     behind_impossible, deepest, echo_in_one_group, empty_filters, ends_of_the_range, one_bit_tests,
     residue_cases, LeftOver, ResidueCase, ECHO, ECHO_RECORDS, WITHOUT_PLACES,
 };
-use filterbox_tests::ffi;
 use filterbox_tests::fields::{full, FIELDS};
 use filterbox_tests::frames::{compose, echo_request, hand_made, Frame, Layout};
+use filterbox_tests::library::library;
 use filterbox_tests::rules::{read_list, words, Filter};
 use filterbox_tests::runner::Runner;
 use filterbox_tests::walker::{Answer, DONE, STOPPED};
@@ -36,8 +36,8 @@ pub fn run(runner: &mut Runner, coverage: &mut Coverage) {
 }
 
 fn scratch_words() {
-    assert!(ffi::scratch_words() <= MOST_SCRATCH_WORDS);
-    assert_eq!(ffi::scratch_words(), 1024, "the number that docs/ publishes");
+    assert!(library().scratch_words() <= MOST_SCRATCH_WORDS);
+    assert_eq!(library().scratch_words(), 1024, "the number that docs/ publishes");
 }
 
 fn ten_records(coverage: &mut Coverage) {
@@ -49,7 +49,7 @@ fn ten_records(coverage: &mut Coverage) {
 }
 
 fn words_89_and_90(coverage: &mut Coverage) {
-    let scratch = 10 * ffi::scratch_words();
+    let scratch = 10 * library().scratch_words();
     let small = build(&ECHO, 89, scratch, coverage);
     assert_eq!((small.built.refusal, small.built.number), (11, 0));
     assert_eq!(small.table[..81], [0; 81]);
@@ -165,7 +165,7 @@ fn most_states(coverage: &mut Coverage) {
 
 /// More words than 4,096 slots take: the rest is no slot, needs no scratch and stays as it was.
 fn beyond_the_slots(coverage: &mut Coverage) {
-    let scratch = MOST_SLOTS * ffi::scratch_words();
+    let scratch = MOST_SLOTS * library().scratch_words();
     let table = MOST_SLOTS * RECORD_WORDS + 500;
     assert_eq!(build(&ECHO, table, scratch, coverage).states(), 10);
     assert_eq!(build(&ECHO, table, scratch - 1, coverage).built.refusal, 10);

@@ -1,9 +1,10 @@
 //! Random lists and frames: every word of the build, and every frame at every allowance.
 
 use filterbox_tests::builder::{records, RECORD_WORDS};
+use filterbox_tests::cases::RANDOM_LISTS;
 use filterbox_tests::coverage::Coverage;
-use filterbox_tests::ffi;
 use filterbox_tests::frames::towards;
+use filterbox_tests::library::library;
 use filterbox_tests::lists::{list, style};
 use filterbox_tests::random::Random;
 use filterbox_tests::rules::{words, Filter};
@@ -12,28 +13,27 @@ use filterbox_tests::runner::Runner;
 use crate::support::{build, check_frame, Outcome};
 
 const SEED: u64 = 0x5EED_0000_0009;
-const LISTS: usize = 48_000;
 const FRAMES_A_LIST: usize = 10;
 /// Lists with more states are only tried for refusal 11.
 const SLOTS: usize = 300;
 
 pub fn run(runner: &mut Runner, coverage: &mut Coverage) {
     // Masked and overlapping rules on one field come first.
-    let parts = 8;
+    let (lists, parts) = (RANDOM_LISTS.count(), 8);
     for part in 0..parts {
-        let cases = part * LISTS / parts..(part + 1) * LISTS / parts;
-        let style = style(cases.start, LISTS);
+        let cases = part * lists / parts..(part + 1) * lists / parts;
+        let style = style(cases.start, lists);
         runner.check(&format!("random_lists_{part}_from_{style:?}").to_lowercase(), || {
             for case in cases {
-                one_case(case, coverage);
+                one_case(case, lists, coverage);
             }
         });
     }
 }
 
-fn one_case(case: usize, coverage: &mut Coverage) {
+fn one_case(case: usize, lists: usize, coverage: &mut Coverage) {
     let random = &mut Random::case(SEED, case as u64);
-    let filters = list(random, style(case, LISTS));
+    let filters = list(random, style(case, lists));
     let Some(built) = build_case(random, &filters, coverage) else { return };
     for _ in 0..FRAMES_A_LIST {
         let frame = towards(random, &filters);
@@ -45,7 +45,7 @@ fn one_case(case: usize, coverage: &mut Coverage) {
 /// of scratch. None where it has too many states.
 fn build_case(random: &mut Random, filters: &[Filter], coverage: &mut Coverage) -> Option<Outcome> {
     let list = words(filters);
-    let slot_words = ffi::scratch_words();
+    let slot_words = library().scratch_words();
     let room = |slots: usize, odd: usize| (slots * RECORD_WORDS + odd, slots * slot_words);
     let Some(states) = records(filters, SLOTS).map(|records| records.len()) else {
         let (table, scratch) = room(random.between(SLOTS - 50, SLOTS), random.below(9));

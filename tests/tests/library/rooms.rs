@@ -3,7 +3,7 @@
 use filterbox_tests::builder::RECORD_WORDS;
 use filterbox_tests::coverage::Coverage;
 use filterbox_tests::examples::{behind_impossible, one_bit_tests, ECHO};
-use filterbox_tests::ffi;
+use filterbox_tests::library::library;
 use filterbox_tests::rules::{words, MOST_FILTERS};
 use filterbox_tests::runner::Runner;
 
@@ -21,7 +21,7 @@ pub fn run(runner: &mut Runner, coverage: &mut Coverage) {
 /// In each room: lists of 1, 10 and 255 states, and where there are such lists, one with as many
 /// states as slots and one with a state more.
 fn every_room(coverage: &mut Coverage) {
-    let slot_words = ffi::scratch_words();
+    let slot_words = library().scratch_words();
     let tree = words(&one_bit_tests(7));
     for slots in 0..=SLOTS {
         let table = slots * RECORD_WORDS + slots % RECORD_WORDS;
@@ -54,7 +54,7 @@ fn lists_for(slots: usize) -> Option<(Vec<u32>, Vec<u32>)> {
 }
 
 fn scratch_sizes(coverage: &mut Coverage) {
-    let slot_words = ffi::scratch_words();
+    let slot_words = library().scratch_words();
     for slots in [1, 9, 10, 11] {
         let need = slots * slot_words;
         for scratch in [0, 1, need / 2, need - 1, need, need + 1, need + slot_words] {
@@ -72,7 +72,7 @@ fn scratch_sizes(coverage: &mut Coverage) {
 }
 
 fn every_table(coverage: &mut Coverage) {
-    let scratch = 30 * ffi::scratch_words();
+    let scratch = 30 * library().scratch_words();
     for table in 0..=200 {
         let built = build(&ECHO, table, scratch, coverage).built;
         assert_eq!(built.refusal, if table < 90 { 11 } else { 0 }, "{table} words");

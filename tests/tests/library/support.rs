@@ -3,8 +3,8 @@
 use filterbox_tests::builder::{self, Built, RECORD_WORDS};
 use filterbox_tests::coverage::Coverage;
 use filterbox_tests::demands::{self, describe};
-use filterbox_tests::ffi;
 use filterbox_tests::frames::Frame;
+use filterbox_tests::library::library;
 use filterbox_tests::rules::{words, Filter};
 use filterbox_tests::walker::{self, Answer};
 
@@ -66,8 +66,8 @@ pub fn build(
     let mut scratch_should = scratch.clone();
     let given = list.to_vec();
 
-    let built = ffi::build(list, table.lend(), scratch.lend());
-    let slot_words = ffi::scratch_words();
+    let built = library().build(list, table.lend(), scratch.lend());
+    let slot_words = library().scratch_words();
     let should = builder::build(list, table_should.lend(), scratch_should.lend(), slot_words);
 
     let case = || {
@@ -100,12 +100,12 @@ pub fn note_build(built: Built, coverage: &mut Coverage) {
 
 /// Builds a list in so many slots.
 pub fn build_in_slots(list: &[u32], slots: usize, coverage: &mut Coverage) -> Outcome {
-    build(list, slots * RECORD_WORDS, slots * ffi::scratch_words(), coverage)
+    build(list, slots * RECORD_WORDS, slots * library().scratch_words(), coverage)
 }
 
 /// The library's answer, which the reference's walk through the same words must give as well.
 pub fn classify(frame: &Frame, table: &[u32], states: u32, allowance: u32) -> Answer {
-    let answer = ffi::classify(&frame.bytes, frame.port, table, states, allowance);
+    let answer = library().classify(&frame.bytes, frame.port, table, states, allowance);
     let should = walker::classify(&frame.bytes, frame.port, table, states, allowance);
     if answer != should {
         let records: Vec<String> =
@@ -138,7 +138,7 @@ pub fn classify_noted(
 pub fn check_frame(filters: &[Filter], frame: &Frame, built: &Outcome, coverage: &mut Coverage) {
     let states = built.states();
     let checked = demands::check(filters, frame, coverage, |allowance| {
-        let answer = ffi::classify(&frame.bytes, frame.port, &built.table, states, allowance);
+        let answer = library().classify(&frame.bytes, frame.port, &built.table, states, allowance);
         let walked = walker::classify(&frame.bytes, frame.port, &built.table, states, allowance);
         assert!(
             answer == walked,

@@ -1,0 +1,103 @@
+//! The C interface of `include/filterbox.h` for Rust, declared once: tests, bench and the stand-in
+//! take it from here. What each number means is said in the header.
+//!
+//! A new call takes its line in `calls!` and a function below it that takes slices.
+
+/// What building answers.
+#[repr(C)]
+#[derive(Clone, Copy, PartialEq, Eq, Debug)]
+pub struct Built {
+    pub refusal: u32,
+    pub number: u32,
+}
+
+/// What classifying answers.
+#[repr(C)]
+#[derive(Clone, Copy, PartialEq, Eq, Debug)]
+pub struct Answer {
+    pub ended: u32,
+    pub refusal: u32,
+    pub sure: u32,
+    pub out: u32,
+    pub asked: u32,
+}
+
+/// Whether this program has the library's code in it; without it a call panics.
+pub const LINKED: bool = cfg!(linked);
+
+macro_rules! calls {
+    ($(fn $name:ident($($lent:ident: $kind:ty),*) -> $answer:ty;)*) => {
+        #[cfg(linked)]
+        extern "C" {
+            $(fn $name($($lent: $kind),*) -> $answer;)*
+        }
+
+        $(
+            #[cfg(not(linked))]
+            unsafe fn $name($(_: $kind),*) -> $answer {
+                panic!("the library is not linked into this program");
+            }
+        )*
+
+        /// The type of each call, by which a stand-in's own is checked.
+        #[allow(non_camel_case_types)]
+        pub mod types {
+            use super::*;
+            $(pub type $name = unsafe extern "C" fn($($kind),*) -> $answer;)*
+        }
+    };
+}
+
+calls! {
+    fn filterbox_build(
+        list: *const u32, list_len: usize,
+        table: *mut u32, table_len: usize,
+        scratch: *mut u32, scratch_len: usize
+    ) -> Built;
+
+    fn filterbox_classify(
+        frame: *const u8, frame_len: usize, port: u8,
+        table: *const u32, table_len: usize, states: u32, allowance: u32
+    ) -> Answer;
+
+    fn filterbox_scratch_words() -> u32;
+}
+
+/// Compiles a list into a lent table.
+pub fn build(list: &[u32], table: &mut [u32], scratch: &mut [u32]) -> Built {
+    // SAFETY: each pointer goes with the length of the slice it comes from, and the two that are
+    // written come from slices lent for writing.
+    unsafe {
+        filterbox_build(
+            list.as_ptr(),
+            list.len(),
+            table.as_mut_ptr(),
+            table.len(),
+            scratch.as_mut_ptr(),
+            scratch.len(),
+        )
+    }
+}
+
+/// Walks a frame through a table.
+#[inline(always)]
+pub fn classify(frame: &[u8], port: u8, table: &[u32], states: u32, allowance: u32) -> Answer {
+    // SAFETY: as above; the call writes nothing.
+    unsafe {
+        filterbox_classify(
+            frame.as_ptr(),
+            frame.len(),
+            port,
+            table.as_ptr(),
+            table.len(),
+            states,
+            allowance,
+        )
+    }
+}
+
+/// The scratch words that a slot takes.
+pub fn scratch_words() -> usize {
+    // SAFETY: takes nothing and answers a number.
+    unsafe { filterbox_scratch_words() as usize }
+}

@@ -1,0 +1,97 @@
+//! The library under test, by one of two ways that nothing above this module knows: linked into the
+//! test program where that is x86-64 code as well, else in a program of its own at the other end of
+//! a pipe (`pipe`). FILTERBOX_PIPE=1 takes the pipe on any processor.
+//!
+//! A new call is one function here, with its two ways beside each other.
+
+use std::env;
+use std::sync::OnceLock;
+
+use filterbox_sys as linked;
+use filterbox_sys::{Answer, Built};
+
+use crate::pages::{lent, shown};
+use crate::pipe::{self, Call, Place, Room, Words};
+
+#[derive(Clone, Copy)]
+pub struct Library {
+    piped: bool,
+    place: Place,
+}
+
+/// The library by the way of this run.
+pub fn library() -> Library {
+    static PIPED: OnceLock<bool> = OnceLock::new();
+    let forced = || env::var("FILTERBOX_PIPE").as_deref() == Ok("1");
+    let piped = *PIPED.get_or_init(|| !linked::LINKED || forced());
+    Library { piped, place: Place::Middle }
+}
+
+impl Library {
+    /// The library over the pipe, whatever the way of this run is.
+    pub fn piped() -> Library {
+        Library { piped: true, place: Place::Middle }
+    }
+
+    /// The same, lent its rooms at a place.
+    pub fn at(self, place: Place) -> Library {
+        Library { place, ..self }
+    }
+
+    /// The way in words.
+    pub fn way(self) -> &'static str {
+        if self.piped {
+            "over the pipe"
+        } else {
+            "linked"
+        }
+    }
+
+    fn call(self, call: u32, numbers: &[u32], rooms: &mut [Room]) -> Words {
+        pipe::call(Call { call, place: self.place, numbers }, rooms)
+    }
+
+    /// Compiles a list into a lent table.
+    pub fn build(self, list: &[u32], table: &mut [u32], scratch: &mut [u32]) -> Built {
+        if self.piped {
+            let rooms = &mut [Room::Shown(list), Room::Lent(table), Room::Lent(scratch)];
+            let [refusal, number, ..] = self.call(pipe::BUILD, &[], rooms);
+            return Built { refusal, number };
+        }
+        shown(self.place, list, |list| {
+            lent(self.place, table, |table| {
+                lent(self.place, scratch, |scratch| linked::build(list, table, scratch))
+            })
+        })
+    }
+
+    /// Walks a frame through a table.
+    pub fn classify(
+        self,
+        frame: &[u8],
+        port: u8,
+        table: &[u32],
+        states: u32,
+        allowance: u32,
+    ) -> Answer {
+        if self.piped {
+            let numbers = [u32::from(port), states, allowance];
+            let rooms = &mut [Room::Bytes(frame), Room::Shown(table)];
+            let [ended, refusal, sure, out, asked, ..] = self.call(pipe::CLASSIFY, &numbers, rooms);
+            return Answer { ended, refusal, sure, out, asked };
+        }
+        shown(self.place, frame, |frame| {
+            shown(self.place, table, |table| {
+                linked::classify(frame, port, table, states, allowance)
+            })
+        })
+    }
+
+    /// The scratch words that a slot takes.
+    pub fn scratch_words(self) -> usize {
+        if self.piped {
+            return self.call(pipe::SCRATCH_WORDS, &[], &mut [])[0] as usize;
+        }
+        linked::scratch_words()
+    }
+}
