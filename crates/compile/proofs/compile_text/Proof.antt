@@ -15,7 +15,7 @@ enum-known-count c = search needs
 
 array-share-prefix-words : tie.Need-array-share-prefix-words
 array-share-prefix-words c =
-    reads-fit _ _ _ _ _ (c .before .before .before .read-words .ensures) (c .before .count .given .1)
+    reads-fit (c .before .before .before .read-words .ensures) _ (c .before .count .given .1)
 
 slice-aggregate-compile : tie.Need-slice-aggregate-compile
 slice-aggregate-compile c = sym (length-take-le _ _ (array-share-prefix-words (c .before)))
