@@ -1,6 +1,6 @@
 -- The machine of a well-formed list is lawful, so its states are met each once, and they are exactly those that outcomes reach from the start.
 --   Good fs s   a state of the list fs: a standing for each filter, every remaining test well formed, and it fits a slot
-use Prim.Native.Nat.{suc, _*_, _<_}
+use Prim.Native.Nat.{_*_, _<_}
 use native.Mathlib.Omega.{arith}
 use mathlib.Core.Path.{_≡_, refl, _∙_}
 use mathlib.Core.Bool.{true, false≢true}
@@ -8,7 +8,7 @@ use mathlib.Core.List.{List}
 use lib.ListN.{length, getD}
 use Rattle.residue.specs.declared.Outcome.{Outcome}
 use Rattle.lists.specs.Accepted.{itemWords, wellFilters}
-use Rattle.lists.specs.Filters.{Item, Filter, testsIn}
+use Rattle.lists.specs.Filters.{Item, Filter}
 use Rattle.states.specs.States.{State, Question, nothing, ask, questionOf, start, step}
 use Rattle.states.specs.Laws.{wellState, well-start, well-step, length-start, length-step, start-remaining, step-falls, step-keeps, step-ask, same-state-eq, same-state-refl}
 use Rattle.states.specs.States.{remaining}
@@ -20,7 +20,7 @@ use Rattle.automaton.specs.Places.{place-below}
 use Rattle.automaton.specs.Records.{records-long}
 use Rattle.states.specs.Measure.{asks}
 use Rattle.slots.specs.Laws.{fitsSlot, fits-start, fits-step, questionWords}
-use Rattle.machine.specs.Box.{boxOf, statesOf, recordsIn}
+use Rattle.machine.specs.Box.{boxOf, levelsOf, statesOf, recordsIn}
 
 pub record Good (fs : List Filter) (s : State) : Type 0 where
   pub well : wellState s ≡ true
@@ -68,46 +68,46 @@ module _ (fs : List Filter) where
 
 -- All states of a well-formed list.
 module _ (fs : List Filter) (h : wellFilters fs ≡ true) where
-  pub enough : remaining (start fs) < suc (testsIn fs)
+  pub enough : remaining (start fs) < levelsOf fs
   enough = omega (arith, start-remaining fs)
 
   pub start-first : placeOf (boxOf fs) (statesOf fs) (start fs) ≡ 0
   unfolding statesOf
-  start-first = all-place-start (box-lawful fs) (suc (testsIn fs)) (start fs) (good-start fs h) enough
+  start-first = all-place-start (box-lawful fs) (levelsOf fs) (start fs) (good-start fs h) enough
 
   pub start-met : meets (boxOf fs) (statesOf fs) (start fs) ≡ true
   unfolding statesOf
-  start-met = all-start (box-lawful fs) (suc (testsIn fs)) (start fs) (good-start fs h) enough
+  start-met = all-start (box-lawful fs) (levelsOf fs) (start fs) (good-start fs h) enough
 
   pub states-good : Each (Good fs) (statesOf fs)
   unfolding statesOf
-  states-good = all-each-good (box-lawful fs) (suc (testsIn fs)) (start fs) (good-start fs h) enough
+  states-good = all-each-good (box-lawful fs) (levelsOf fs) (start fs) (good-start fs h) enough
 
   pub state-good : (s : State) → meets (boxOf fs) (statesOf fs) s ≡ true → Good fs s
   unfolding statesOf
-  state-good = all-good (box-lawful fs) (suc (testsIn fs)) (start fs) (good-start fs h) enough
+  state-good = all-good (box-lawful fs) (levelsOf fs) (start fs) (good-start fs h) enough
 
   pub states-closed : (o : Outcome) (s : State) → meets (boxOf fs) (statesOf fs) s ≡ true → asks (questionOf s) ≡ true → meets (boxOf fs) (statesOf fs) (step fs o s) ≡ true
   unfolding statesOf
-  states-closed = all-closed (box-lawful fs) (suc (testsIn fs)) (start fs) (good-start fs h) enough
+  states-closed = all-closed (box-lawful fs) (levelsOf fs) (start fs) (good-start fs h) enough
 
   pub states-place : (s d : State) → meets (boxOf fs) (statesOf fs) s ≡ true → getD (statesOf fs) (placeOf (boxOf fs) (statesOf fs) s) d ≡ s
   unfolding statesOf
-  states-place = all-place-state (box-lawful fs) (suc (testsIn fs)) (start fs) (good-start fs h) enough
+  states-place = all-place-state (box-lawful fs) (levelsOf fs) (start fs) (good-start fs h) enough
 
   -- No state stands twice among them.
   pub states-distinct : Distinct (boxOf fs) (statesOf fs)
   unfolding statesOf
-  states-distinct = all-distinct (box-lawful fs) (suc (testsIn fs)) (start fs) (good-start fs h) enough
+  states-distinct = all-distinct (box-lawful fs) (levelsOf fs) (start fs) (good-start fs h) enough
 
   -- A state is one of them exactly where outcomes reach it from the start.
   pub states-reached : (s : State) → meets (boxOf fs) (statesOf fs) s ≡ true → Reached (boxOf fs) (start fs) s
   unfolding statesOf
-  states-reached = all-reached (box-lawful fs) (suc (testsIn fs)) (start fs) (good-start fs h) enough
+  states-reached = all-reached (box-lawful fs) (levelsOf fs) (start fs) (good-start fs h) enough
 
   pub reached-states : (s : State) → Reached (boxOf fs) (start fs) s → meets (boxOf fs) (statesOf fs) s ≡ true
   unfolding statesOf
-  reached-states s r = reached-all (box-lawful fs) (suc (testsIn fs)) (start fs) (good-start fs h) enough r
+  reached-states s r = reached-all (box-lawful fs) (levelsOf fs) (start fs) (good-start fs h) enough r
 
   -- There is at least the start, and a record of nine words for each state.
   pub states-some : 0 < length (statesOf fs)
