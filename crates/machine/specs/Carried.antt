@@ -46,7 +46,7 @@ module _ (fs : List Filter) (few : length fs ≤ maxFilters) where
         sets-carried = λ s g. ap₂ (λ (x y : ℕ). x ∷ y ∷ []) (sure-written fs s (g .each) few (g .fits)) (out-written fs s (g .each) few (g .fits));
       }
 
-  pub slots-placed : wellFilters fs ≡ true → (slots : ℕ) → PlacesStates fs (length fs) slots (testsIn fs) (written (start fs))
+  slots-placed : wellFilters fs ≡ true → (slots : ℕ) → PlacesStates fs (length fs) slots (testsIn fs) (written (start fs))
   unfolding statesOf
   slots-placed h slots = placed-carried (box-lawful fs) slots-carried slots (testsIn fs) (start fs) (good-start fs h) (enough fs h)
 
