@@ -392,7 +392,7 @@ module _ (n slots : ℕ) (ranks : List ℕ) (at used : ℕ) (t s : List ℕ) (re
               beyond = c .beyond ∙ b .beyond ∙ a .beyond;
             }
 
--- A way is asked of the words that the state was asked of: it may be built, and more than its tests remain in the measure of the state.
+-- A later way finds the words of its state as they were: they still ask, and the way's measure is below the state's.
 pub asking-on : (n : ℕ) (ranks w w' : List ℕ) → w' ≡ w → Asking n ranks w → Asking n ranks w'
 asking-on n ranks w w' e a = subst (λ (x : List ℕ). Asking n ranks x) (sym e) a
 

@@ -4,8 +4,8 @@
 --   Grown       the slots used grow, and stay within the slots there are
 --   AfterKept   the table's words after the last record stay
 --   Asking      the words of a state that asks
---   Placing     what placing ways or states leaves, where the theory says so of the states and records
---   StatePlaced, WayPlaced   what the state builder and the way builder leave: what the theory places with any number of questions that is enough for the tests that remain
+--   Placing     what placing ways or states leaves; Says is what the theory says of the states and records
+--   StatePlaced, WayPlaced   what the state builder and the way builder leave: what the theory places with any number of questions that is enough
 --   Meeting     what meeting the state c leaves, by the answer
 use Prim.Native.Nat.{ℕ, _+_, _*_, _≤_, _<_}
 use mathlib.Core.Path.{_≡_}
@@ -85,13 +85,13 @@ pub record Placing (n slots : ℕ) (ranks : List ℕ) (used : ℕ) (t s : List �
   pub kept : take (slotWords * used) s' ≡ take (slotWords * used) s
   pub beyond : drop (slotWords * slots) s' ≡ drop (slotWords * slots) s
 
--- Whatever bound the theory is given, as long as the tests that remain in the state of slot `at` do not exceed it: the code has none.
+-- The theory is given a number of questions, the code none: any number will do that is no less than the tests that remain in the state of slot `at`.
 abbrev pub StatePlaced : (n slots : ℕ) (ranks : List ℕ) (at used : ℕ) (t s : List ℕ) → Room → List ℕ → List ℕ → Type 0
 StatePlaced n slots ranks at used t s r t' s' =
     Placing n slots ranks used t s r t' s'
     (λ p. (left : ℕ) → leftIn n (slotAt n s at) ≤ left → p ≡ placeState (slotsIn n ranks) slots left at (slotAt n s at) (memoryOf n ranks used t s))
 
--- A way takes one question of the bound.
+-- The question that the way answers counts as one of them.
 abbrev pub WayPlaced : (n slots : ℕ) (ranks : List ℕ) (o : Outcome) (at used : ℕ) (t s : List ℕ) → Room → List ℕ → List ℕ → Type 0
 WayPlaced n slots ranks o at used t s r t' s' =
     Placing n slots ranks used t s r t' s'
