@@ -3,15 +3,14 @@
 use Prim.Native.Nat.{_*_, _<_}
 use native.Mathlib.Omega.{arith}
 use mathlib.Core.Path.{_≡_, refl, _∙_}
-use mathlib.Core.Bool.{true, false≢true}
+use mathlib.Core.Bool.{true}
 use mathlib.Core.List.{List}
 use lib.ListN.{length, getD}
 use Rattle.residue.specs.declared.Outcome.{Outcome}
 use Rattle.lists.specs.Accepted.{itemWords, wellFilters}
-use Rattle.lists.specs.Filters.{Item, Filter}
-use Rattle.states.specs.States.{State, Question, nothing, ask, questionOf, start, step}
-use Rattle.states.specs.Laws.{wellState, well-start, well-step, length-start, length-step, start-remaining, step-falls, step-keeps, step-ask, same-state-eq, same-state-refl}
-use Rattle.states.specs.States.{remaining}
+use Rattle.lists.specs.Filters.{Filter}
+use Rattle.states.specs.States.{State, Question, nothing, ask, questionOf, start, step, remaining}
+use Rattle.states.specs.Laws.{wellState, well-start, well-step, length-start, length-step, start-remaining, next-falls, step-keeps, same-state-eq, same-state-refl}
 use Rattle.automaton.specs.Machines.{meets, placeOf}
 use Rattle.automaton.specs.Lawful.{Lawful, Reached, Distinct}
 use Rattle.automaton.specs.Reaching.{all-each-good, all-good, all-closed, all-start, all-reached, reached-all, all-distinct, all-place-state, all-place-start}
@@ -32,14 +31,6 @@ unfolding questionWords itemWords
 question-four nothing = refl
 question-four (ask q) = refl
 
-pub asked-question : (s : State) → asks (questionOf s) ≡ true → (q : Item) × (questionOf s ≡ ask q)
-unfolding asks
-asked-question s e = go (questionOf s) refl e
-  where
-    go : (a : Question) → questionOf s ≡ a → asks a ≡ true → (q : Item) × (questionOf s ≡ ask q)
-    go nothing r e = absurd (false≢true e)
-    go (ask q) r e = (q, r)
-
 module _ (fs : List Filter) where
   pub good-step : (o : Outcome) (s : State) → Good fs s → Good fs (step fs o s)
   good-step o s g =
@@ -50,18 +41,13 @@ module _ (fs : List Filter) where
   pub good-start : wellFilters fs ≡ true → Good fs (start fs)
   good-start h = record { well = well-start fs h; each = length-start fs; fits = fits-start fs h }
 
-  box-falls : (o : Outcome) (s : State) → Good fs s → asks (questionOf s) ≡ true → remaining (step fs o s) < remaining s
-  box-falls o s g e =
-      let a = asked-question s e in
-      rw (step-ask fs o (a .0) s (a .1)) (step-falls fs o (a .0) s (g .well) (a .1))
-
   pub box-lawful : Lawful (boxOf fs) (Good fs) remaining
   box-lawful =
       record {
         same-eq = λ a b g e. same-state-eq a b e;
         same-refl = λ a g. same-state-refl a;
         good-step = λ o s g e. good-step o s g;
-        falls = λ o s g e. box-falls o s g e;
+        falls = λ o s g e. next-falls fs o s (g .well) e;
         question-long = λ s g. question-four (questionOf s);
         sets-long = λ s g. refl;
       }
