@@ -3,8 +3,10 @@
  *
  * The library keeps nothing between calls and allocates nothing: all memory is lent by the caller,
  * who may call it from any thread. It never fails in any other way than by the refusal numbers
- * below. Pieces of memory that a call is lent must not overlap. A length of 0 still wants a pointer
- * that is not NULL.
+ * below. The caller sees to the memory that a call is lent: pieces must not overlap, a length must
+ * not pass what stands behind its pointer, pointers are aligned as their types are, and no other
+ * thread writes a piece, or reads one that the call writes, until the call returns. A length of 0
+ * still wants a pointer that is not NULL.
  */
 #ifndef FILTERBOX_H
 #define FILTERBOX_H

@@ -12,13 +12,11 @@ use lib.Seq.{getD-at, set-at}
 use borrow.Author.Tests.{leb-true, leb-false, le-leb, lt-leb}
 use Rattle.residue.specs.declared.Outcome.{Outcome}
 use Rattle.residue.specs.declared.Outcome.the-variants.{Holds, Fails, Absent}
-use Rattle.automaton.specs.Machines.{Machine, meets, placeOf, visit, nextsOf, recordOf}
-use Rattle.automaton.specs.Lists.{each-nil, each-head, each-tail, each-left, each-right, Each, Begins, begins-refl, begins-append, begins-trans, begins-length}
+use Rattle.automaton.specs.Machines.{Machine, meets, placeOf, nextsOf, recordOf}
+use Rattle.automaton.specs.Lists.{each-head, each-tail, each-left, each-right, Each, Begins, begins-refl, begins-append, begins-trans, begins-length}
 use Rattle.automaton.specs.Placing.{Memory, Placed, full, room, nextWord, freshRecord, stored, linked, andThen, placeWay, placeState, placeAll}
-use Rattle.automaton.specs.Lawful.{Lawful}
-use Rattle.automaton.specs.Visited.{Visits, old, final, asking, visits-exist, visits-visit, three-ways}
+use Rattle.automaton.specs.Visited.{Visits, old, final, asking, three-ways}
 use Rattle.automaton.specs.Places.{meets-nil, place-begins, place-begins-new}
-use Rattle.automaton.specs.Reaching.{visits-good}
 
 abbrev pub memory : {M : Machine} → List (M .State) → List (List ℕ) → Memory M
 memory met records = record { met = met; records = records }
@@ -312,15 +310,3 @@ placed-visits M slots {f} {news} {s} v fits = go (leb (length news) slots) refl
     go : (x : Bool) → leb (length news) slots ≡ x → placeAll M slots f s ≡ cond x (room (memory news (map (recordOf M news) news))) full
     go true h = placed-room M slots v fits (leb-true _ slots h)
     go false h = placed-full M slots v fits (leb-false _ slots h)
-
-module _ {M : Machine} {Good : M .State → Type 0} {left : M .State → ℕ} (law : Lawful M Good left) where
-  pub good-fit : (s : M .State) → Good s → Fit M s
-  good-fit s g = record { itself = law .same-refl s g; four = law .question-long s g }
-
-  pub placed-all : (slots f : ℕ) (s₀ : M .State) → Good s₀ → left s₀ < suc f
-      → placeAll M slots f s₀
-      ≡ cond (leb (length (visit M (suc f) [] s₀)) slots)
-      (room (memory (visit M (suc f) [] s₀) (map (recordOf M (visit M (suc f) [] s₀)) (visit M (suc f) [] s₀)))) full
-  placed-all slots f s₀ g h =
-      let v = visits-exist law f [] s₀ g h in
-      rw (visits-visit (v .1)) (placed-visits M slots (v .1) (λ s m. good-fit s (visits-good law (v .1) (each-nil Good) g s m)))

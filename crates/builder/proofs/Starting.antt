@@ -1,33 +1,36 @@
 -- What the calls that place the start ask.
 -- Assumes nothing.
-use Prim.Native.Nat.{ℕ, _+_, _*_, _≤_, _<_}
-use mathlib.Core.Path.{_≡_, sym, subst}
+use Prim.Native.Nat.{ℕ, _*_, _≤_, _<_}
+use mathlib.Core.Path.{_≡_, sym, ap, _∙_, subst}
 use mathlib.Core.List.{List}
 use native.Mathlib.Omega.{arith}
 use lib.ListN.{length}
-use Rattle.lists.specs.Filters.{maxFilters}
-use Rattle.lists.specs.Laws.{accepted-count}
+use Rattle.lists.specs.Filters.{maxFilters, filtersOf}
+use Rattle.lists.specs.Laws.{accepted-count, length-rankSets}
 use Rattle.tables.specs.Tables.{recordWords}
 use Rattle.slots.specs.Words.{filterSlot, slotWords}
 use Rattle.slots.specs.Steps.{Starts}
 use Rattle.builder.specs.Promises.{Ready, Store}
 use Rattle.builder.specs.Building.{Startable}
 
-module _ (n slots k : ℕ) (ranks l t s : List ℕ) (able : Startable n slots k ranks l t s) where
+module _ (n slots : ℕ) (ranks l t s : List ℕ) (able : Startable n slots ranks l t s) where
   pub start-few : n ≤ maxFilters
-  start-few = accepted-count l n k (able .listing) .2
+  start-few = accepted-count l n (able .listing .0) (able .listing .1) .2
 
   pub start-roomy : filterSlot * n ≤ slotWords
   start-roomy = let few = start-few in omega arith
 
+  pub start-ranked : length ranks ≡ maxFilters
+  start-ranked = ap length (able .ranked) ∙ length-rankSets (filtersOf l)
+
   pub start-asks : (d : List ℕ) → length d ≡ filterSlot * n → Starts n l d
-  start-asks d long = record { accepted = (k, able .listing); target = long }
+  start-asks d long = record { accepted = able .listing; target = long }
 
   pub store-asks : (c : List ℕ) → length c ≡ filterSlot * n → 0 < slots → Store n slots ranks 0 t s c
   store-asks c long some =
       record {
         filters = start-few;
-        ranked = able .ranked;
+        ranked = start-ranked;
         below = some;
         few = able .few;
         tabled = able .tabled;
@@ -39,7 +42,7 @@ module _ (n slots k : ℕ) (ranks l t s : List ℕ) (able : Startable n slots k 
   ready-start t' s' some lt ls =
       record {
         filters = start-few;
-        ranked = able .ranked;
+        ranked = start-ranked;
         inside = omega arith;
         within = some;
         few = able .few;

@@ -6,10 +6,11 @@ use mathlib.Core.Bool.{Bool, true, false, cond}
 use mathlib.Core.List.{List, [], _∷_, _++_, map, append-nil, append-assoc}
 use native.Mathlib.Omega.{arith}
 use lib.Dec.{leb, ltb}
-use lib.ListN.{length, take, drop, replicate, length-map, length-take, take-append-drop}
+use lib.ListN.{length, take, drop, replicate, length-map, take-append-drop}
 use lib.Seq.{take-add, length-take-le}
 use borrow.Author.Tests.{leb-true, leb-false, lt-ltb, le-ltb}
-use Rattle.lists.specs.Filters.{Filter, maxFilters, filtersOf}
+use Rattle.lists.specs.Filters.{Filter, filtersOf}
+use Rattle.lists.specs.Ranks.{rankSets}
 use Rattle.lists.specs.Refusals.{listed}
 use Rattle.lists.specs.declared.Listed.{Listed}
 use Rattle.lists.specs.declared.Listed.the-variants.{Accepted, Refused}
@@ -20,8 +21,9 @@ use Rattle.automaton.specs.Machines.{Machine, recordOf, recordsOf, flat}
 use Rattle.automaton.specs.Placing.{Memory, Placed, full, room}
 use Rattle.automaton.specs.Placed.{memory}
 use Rattle.machine.specs.Box.{boxOf, slotsIn, statesOf, recordsIn}
-use Rattle.builder.specs.Outcome.{Shown, shown, Left, cleared, tableWords, scratchWords, refused, noRoom, placed, accepted, outcomeBy, outcome, Answered}
-use Rattle.builder.specs.Memory.{slotAt, recordAt, statesIn, recordsAt, memoryOf, outOf}
+use Rattle.machine.specs.Carried.{whole}
+use Rattle.builder.specs.Outcome.{Left, cleared, tableWords, scratchWords, refused, noRoom, placed, accepted, outcomeBy, outcome, Answered}
+use Rattle.builder.specs.Memory.{recordAt, recordsAt, memoryOf, outOf}
 use Rattle.builder.specs.Placed.{length-states}
 use Rattle.builder.specs.Promises.{Grown, AfterKept}
 use Rattle.builder.specs.declared.Room.{Room}
@@ -46,24 +48,17 @@ records-front (suc u) t =
     ∙ sym (take-add (recordWords * u) recordWords t)
     ∙ ap (λ (k : ℕ). take k t) (sym one)
 
--- What placing the whole list comes to, by the theory.
-abbrev pub whole : (n : ℕ) (ranks : List ℕ) → List Filter → ℕ → Placed (slotsIn n ranks)
-whole n ranks fs slots =
-    cond (leb (length (statesOf fs)) slots)
-    (room (memory (map written (statesOf fs)) (map (recordOf (boxOf fs) (statesOf fs)) (statesOf fs))))
-    full
-
--- An accepted list and rooms of the sizes asked.
-pub record Startable (n slots k : ℕ) (ranks l t s : List ℕ) : Type 0 where
-  pub ranked : length ranks ≡ maxFilters
-  pub listing : listed l ≡ Accepted n k
+-- An accepted list, its rank sets and rooms of the sizes asked.
+pub record Startable (n slots : ℕ) (ranks l t s : List ℕ) : Type 0 where
+  pub ranked : ranks ≡ rankSets (filtersOf l)
+  pub listing : (k : ℕ) × (listed l ≡ Accepted n k)
   pub few : slots ≤ maxSlots
   pub tabled : recordWords * slots ≤ length t
   pub scratched : slotWords * slots ≤ length s
 
--- The words left by the start and all that follows from it.
-pub record Started (n slots : ℕ) (ranks : List ℕ) (t s : List ℕ) (r : Room) (t' s' : List ℕ) (p : Placed (slotsIn n ranks)) : Type 0 where
-  pub comes : outOf n ranks r t' s' ≡ p
+-- The words left by the start of the list fs and all that follows from it.
+pub record Started (n slots : ℕ) (ranks : List ℕ) (fs : List Filter) (t s : List ℕ) (r : Room) (t' s' : List ℕ) : Type 0 where
+  pub comes : outOf n ranks r t' s' ≡ whole n ranks fs slots
   pub grows : Grown 0 slots r
   pub after : AfterKept r t t'
   pub behind : drop (recordWords * slots) t' ≡ drop (recordWords * slots) t
@@ -74,7 +69,7 @@ room≢full e = let z : _≡_ {A = ℕ} 0 1 = cc in omega arith
 
 module _ (n : ℕ) (ranks : List ℕ) (fs : List Filter) (t s t' s' : List ℕ) where
   -- All states found a slot: the records are those of the states, in the order of their numbers.
-  module _ (u : ℕ) (came : Started n (slotsOf t) ranks t s (R.Used u) t' s' (whole n ranks fs (slotsOf t))) where
+  module _ (u : ℕ) (came : Started n (slotsOf t) ranks fs t s (R.Used u) t' s') where
     memory-is : (b : Bool) → leb (length (statesOf fs)) (slotsOf t) ≡ b
         → (b ≡ true) × (memoryOf n ranks u t' s' ≡ memory (map written (statesOf fs)) (map (recordOf (boxOf fs) (statesOf fs)) (statesOf fs)))
     unfolding outOf
@@ -114,52 +109,52 @@ module _ (n : ℕ) (ranks : List ℕ) (fs : List Filter) (t s t' s' : List ℕ) 
         ∙ ap (λ (l : List ℕ). recordsIn fs ++ l) (came .after)
         ∙ ap (λ (k : ℕ). recordsIn fs ++ drop k t) (sym (front-long h))
 
-  cleared-scratch : (r : Room) (p : Placed (slotsIn n ranks)) → Started n (slotsOf t) ranks t s r t' s' p → cleared (slotWords * slotsOf t) s' ≡ cleared (scratchWords t) s
+  cleared-scratch : (r : Room) → Started n (slotsOf t) ranks fs t s r t' s' → cleared (slotWords * slotsOf t) s' ≡ cleared (scratchWords t) s
   unfolding cleared scratchWords
-  cleared-scratch r p came = ap (λ (l : List ℕ). replicate (slotWords * slotsOf t) 0 ++ l) (came .beyond)
+  cleared-scratch r came = ap (λ (l : List ℕ). replicate (slotWords * slotsOf t) 0 ++ l) (came .beyond)
 
   enough : slotWords * slotsOf t ≤ length s → ltb (length s) (scratchWords t) ≡ false
   unfolding scratchWords
   enough h = le-ltb (length s) (slotWords * slotsOf t) h
 
-  pub built-states : (u : ℕ) (r : Room) → r ≡ R.Used u → Started n (slotsOf t) ranks t s r t' s' (whole n ranks fs (slotsOf t))
+  pub built-states : (u : ℕ) (r : Room) → r ≡ R.Used u → Started n (slotsOf t) ranks fs t s r t' s'
       → slotWords * slotsOf t ≤ length s → recordWords * slotsOf t ≤ length t'
       → Answered (accepted fs t s) (B.States u) t' (cleared (slotWords * slotsOf t) s')
   unfolding accepted placed
   built-states u r e came₀ hs ht =
-      let came : Started n (slotsOf t) ranks t s (R.Used u) t' s' (whole n ranks fs (slotsOf t)) =
-      subst (λ (x : Room). Started n (slotsOf t) ranks t s x t' s' (whole n ranks fs (slotsOf t))) e came₀ in
+      let came : Started n (slotsOf t) ranks fs t s (R.Used u) t' s' =
+      subst (λ (x : Room). Started n (slotsOf t) ranks fs t s x t' s') e came₀ in
       let same : accepted fs t s ≡ placed fs t s = rw (enough hs, le-ltb (slotsOf t) (length (statesOf fs)) (fits u came)) in
       subst (λ (l : Left). Answered l (B.States u) t' (cleared (slotWords * slotsOf t) s')) (sym same)
       (record {
         answer = ap (λ (k : ℕ). record { built = 1; refusal = 0; number = k }) (states-are u came);
         table = table-is u came ht;
-        scratch = cleared-scratch (R.Used u) (whole n ranks fs (slotsOf t)) came;
+        scratch = cleared-scratch (R.Used u) came;
       })
 
-  cleared-table : Started n (slotsOf t) ranks t s R.Full t' s' (whole n ranks fs (slotsOf t)) → cleared (recordWords * slotsOf t) t' ≡ cleared (tableWords t) t
+  cleared-table : Started n (slotsOf t) ranks fs t s R.Full t' s' → cleared (recordWords * slotsOf t) t' ≡ cleared (tableWords t) t
   unfolding cleared tableWords
   cleared-table came = ap (λ (l : List ℕ). replicate (recordWords * slotsOf t) 0 ++ l) (came .behind)
 
-  fuller : (b : Bool) → leb (length (statesOf fs)) (slotsOf t) ≡ b → Started n (slotsOf t) ranks t s R.Full t' s' (whole n ranks fs (slotsOf t)) → slotsOf t < length (statesOf fs)
+  fuller : (b : Bool) → leb (length (statesOf fs)) (slotsOf t) ≡ b → Started n (slotsOf t) ranks fs t s R.Full t' s' → slotsOf t < length (statesOf fs)
   unfolding outOf
   fuller true q came =
       absurd (room≢full (sym (came .comes ∙ ap (λ (c : Bool). cond c (room (memory (map written (statesOf fs)) (map (recordOf (boxOf fs) (statesOf fs)) (statesOf fs)))) full) q)))
   fuller false q came = leb-false (length (statesOf fs)) (slotsOf t) q
 
-  pub built-full : (r : Room) → r ≡ R.Full → Started n (slotsOf t) ranks t s r t' s' (whole n ranks fs (slotsOf t))
+  pub built-full : (r : Room) → r ≡ R.Full → Started n (slotsOf t) ranks fs t s r t' s'
       → slotWords * slotsOf t ≤ length s
       → Answered (accepted fs t s) (B.Refused 11 0) (cleared (recordWords * slotsOf t) t') (cleared (slotWords * slotsOf t) s')
   unfolding accepted noRoom
   built-full r e came₀ hs =
-      let came : Started n (slotsOf t) ranks t s R.Full t' s' (whole n ranks fs (slotsOf t)) =
-      subst (λ (x : Room). Started n (slotsOf t) ranks t s x t' s' (whole n ranks fs (slotsOf t))) e came₀ in
+      let came : Started n (slotsOf t) ranks fs t s R.Full t' s' =
+      subst (λ (x : Room). Started n (slotsOf t) ranks fs t s x t' s') e came₀ in
       let same : accepted fs t s ≡ noRoom t s = rw (enough hs, lt-ltb (slotsOf t) (length (statesOf fs)) (fuller (leb (length (statesOf fs)) (slotsOf t)) refl came)) in
       subst (λ (l : Left). Answered l (B.Refused 11 0) (cleared (recordWords * slotsOf t) t') (cleared (slotWords * slotsOf t) s')) (sym same)
       (record {
         answer = refl;
         table = cleared-table came;
-        scratch = cleared-scratch R.Full (whole n ranks fs (slotsOf t)) came;
+        scratch = cleared-scratch R.Full came;
       })
 
 -- The outcome goes by what reading the list comes to.

@@ -6,3 +6,4 @@ pub mod Placed
 pub mod Building
 pub mod Starting
 pub mod Finished
+pub mod Tight

@@ -2,25 +2,25 @@
 -- Assumes nothing.
 use Prim.Native.Nat.{ℕ, zero, suc, _+_, _-_, _*_, _≤_, _<_}
 use mathlib.Core.Path.{_≡_, refl, ap, sym, _∙_, subst}
-use mathlib.Core.Bool.{Bool, true, false}
-use mathlib.Core.List.{List, [], _∷_, _++_}
+use mathlib.Core.Bool.{true, false}
+use mathlib.Core.List.{List, []}
 use native.Mathlib.Omega.{arith}
 use lib.ListN.{length, take, drop, set, getD}
 use lib.Seq.{drop-set-lt, take-take, drop-drop, getD-at}
 use Rattle.residue.specs.declared.Outcome.{Outcome}
 use Rattle.residue.specs.declared.Outcome.the-variants as O
-use Rattle.lists.specs.Filters.{maxFilters}
 use Rattle.sets.specs.Laws.{length-tally, getD-tally}
-use Rattle.tables.specs.Tables.{recordWords, maxSlots}
-use Rattle.slots.specs.Words.{filterSlot, slotWords}
+use Rattle.tables.specs.Tables.{recordWords}
+use Rattle.slots.specs.Words.{slotWords}
 use Rattle.slots.specs.Slots.{stepWords, asksIn}
 use Rattle.machine.specs.Box.{slotsIn}
-use Rattle.automaton.specs.Machines.{Machine, meets, placeOf}
+use Rattle.machine.specs.Remaining.{GoodWords, testsLeft, words-step, words-fall}
+use Rattle.automaton.specs.Machines.{meets, placeOf}
 use Rattle.automaton.specs.Placing.{Memory, Placed, full, room, nextWord, stored, linked, andThen, placeWay, placeState}
 use Rattle.automaton.specs.Placed.{way-old, way-slotless, way-new, state-final, state-full, state-room-full, state-rooms}
-use Rattle.builder.specs.Memory.{slotAt, recordAt, statesIn, recordsAt, memoryOf, outOf}
-use Rattle.builder.specs.MemoryLaws.{slot-kept, records-set, part-kept}
-use Rattle.builder.specs.Promises.{Ready, Held, Placing, Meeting, Grown, AfterKept}
+use Rattle.builder.specs.Memory.{slotAt, statesIn, memoryOf, outOf}
+use Rattle.builder.specs.MemoryLaws.{slot-kept, records-set}
+use Rattle.builder.specs.Promises.{Ready, Held, Asking, StatePlaced, WayPlaced, Meeting, Grown, AfterKept}
 use Rattle.builder.specs.declared.Room.{Room}
 use Rattle.builder.specs.declared.Room.the-variants as R
 use Rattle.builder.specs.declared.Met.{Met}
@@ -43,10 +43,6 @@ pub length-states : (n used : ℕ) (s : List ℕ) → length (statesIn n used s)
 unfolding statesIn
 length-states n used s = length-tally used (λ i. slotAt n s i)
 
-length-met : (n : ℕ) (ranks : List ℕ) (used : ℕ) (t s : List ℕ) → length (memoryOf n ranks used t s .met) ≡ used
-unfolding memoryOf
-length-met n ranks used t s = length-states n used s
-
 drop-linked : (t : List ℕ) (at k : ℕ) (o : Outcome) (v : ℕ) → at < k → drop (recordWords * k) (set t (recordWords * at + nextWord o) v) ≡ drop (recordWords * k) t
 drop-linked t at k o v h =
     let below = next-word-within o in
@@ -63,22 +59,25 @@ later {A} j k a b h e =
 pub earlier : {A : Type 0} (j k : ℕ) (a b : List A) → j ≤ k → take k a ≡ take k b → take j a ≡ take j b
 earlier {A} j k a b h e = sym (take-take j k a h) ∙ ap (λ (l : List A). take j l) e ∙ take-take j k b h
 
-module _ (n slots : ℕ) (ranks : List ℕ) (left at used : ℕ) (o : Outcome) (t s : List ℕ) (ready : Ready n slots ranks at used t s) where
+module _ (n slots : ℕ) (ranks : List ℕ) (at used : ℕ) (o : Outcome) (t s : List ℕ) (ready : Ready n slots ranks at used t s) where
   abbrev pub stepped : List ℕ
   stepped = stepWords n ranks o (slotAt n s at)
 
-  abbrev pub theWay : Placed (slotsIn n ranks)
-  theWay = placeWay (slotsIn n ranks) slots (placeState (slotsIn n ranks) slots left) o at (slotAt n s at) (memoryOf n ranks used t s)
+  abbrev WayLeaves : Room → List ℕ → List ℕ → Type 0
+  WayLeaves r t' s' = WayPlaced n slots ranks o at used t s r t' s'
+
+  abbrev theWay : ℕ → Placed (slotsIn n ranks)
+  theWay left = placeWay (slotsIn n ranks) slots (placeState (slotsIn n ranks) slots left) o at (slotAt n s at) (memoryOf n ranks used t s)
 
   -- An old state: its number is put in. `w` is the place of the word as the code has it.
   linked-old : (i : ℕ) → meets (slotsIn n ranks) (statesIn n used s) stepped ≡ true → placeOf (slotsIn n ranks) (statesIn n used s) stepped ≡ i
-      → Placing n slots ranks used t s (R.Used used) (set t (recordWords * at + nextWord o) i) s theWay
+      → WayLeaves (R.Used used) (set t (recordWords * at + nextWord o) i) s
   unfolding memoryOf outOf
   linked-old i e p =
       let at-used = ready .inside in
       let fits = ready .within in
       record {
-        comes =
+        comes = λ left h.
             sym (way-old (slotsIn n ranks) slots (placeState (slotsIn n ranks) slots left) o at (slotAt n s at) stepped (memoryOf n ranks used t s) refl e
             ∙ ap (λ (k : ℕ). room (linked (slotsIn n ranks) o at k (memoryOf n ranks used t s))) p
             ∙ ap (λ (m : Memory (slotsIn n ranks)). room m) (memory-linked n ranks used at i o t s at-used));
@@ -95,20 +94,20 @@ module _ (n slots : ℕ) (ranks : List ℕ) (left at used : ℕ) (o : Outcome) (
       met .2
 
   pub placed-old : (w i : ℕ) (m : Met) (t' s' : List ℕ) → w ≡ nextWord o → m ≡ M.Old i → Meeting n slots ranks used t s stepped m t' s'
-      → Placing n slots ranks used t s (R.Used used) (set t' (recordWords * at + w) i) s' theWay
+      → WayLeaves (R.Used used) (set t' (recordWords * at + w) i) s'
   placed-old w i m t' s' ew em meeting =
       let met : Meeting n slots ranks used t s stepped (M.Old i) t' s' = subst (λ (x : Met). Meeting n slots ranks used t s stepped x t' s') em meeting in
-      subst (λ (k : ℕ). Placing n slots ranks used t s (R.Used used) (set t' (recordWords * at + k) i) s' theWay) (sym ew)
-      (subst (λ (x : List ℕ). Placing n slots ranks used t s (R.Used used) (set x (recordWords * at + nextWord o) i) s' theWay) (sym (met .3))
-      (subst (λ (x : List ℕ). Placing n slots ranks used t s (R.Used used) (set t (recordWords * at + nextWord o) i) x theWay) (sym (met .4))
+      subst (λ (k : ℕ). WayLeaves (R.Used used) (set t' (recordWords * at + k) i) s') (sym ew)
+      (subst (λ (x : List ℕ). WayLeaves (R.Used used) (set x (recordWords * at + nextWord o) i) s') (sym (met .3))
+      (subst (λ (x : List ℕ). WayLeaves (R.Used used) (set t (recordWords * at + nextWord o) i) x) (sym (met .4))
       (linked-old i (met .0) (met .1))))
 
-  slotless : meets (slotsIn n ranks) (statesIn n used s) stepped ≡ false → slots ≤ used → Placing n slots ranks used t s R.Full t s theWay
+  slotless : meets (slotsIn n ranks) (statesIn n used s) stepped ≡ false → slots ≤ used → WayLeaves R.Full t s
   unfolding memoryOf outOf
   slotless e h =
       let long = length-states n used s in
       record {
-        comes = sym (way-slotless (slotsIn n ranks) slots (placeState (slotsIn n ranks) slots left) o at (slotAt n s at) stepped (memoryOf n ranks used t s) refl e (omega arith));
+        comes = λ left _. sym (way-slotless (slotsIn n ranks) slots (placeState (slotsIn n ranks) slots left) o at (slotAt n s at) stepped (memoryOf n ranks used t s) refl e (omega arith));
         grows = tt;
         after = tt;
         behind = refl;
@@ -116,21 +115,25 @@ module _ (n slots : ℕ) (ranks : List ℕ) (left at used : ℕ) (o : Outcome) (
         beyond = refl;
       }
 
-  pub placed-slotless : (m : Met) (t' s' : List ℕ) → m ≡ M.Full → Meeting n slots ranks used t s stepped m t' s' → Placing n slots ranks used t s R.Full t' s' theWay
+  pub placed-slotless : (m : Met) (t' s' : List ℕ) → m ≡ M.Full → Meeting n slots ranks used t s stepped m t' s' → WayLeaves R.Full t' s'
   placed-slotless m t' s' em meeting =
       let met : Meeting n slots ranks used t s stepped M.Full t' s' = subst (λ (x : Met). Meeting n slots ranks used t s stepped x t' s') em meeting in
-      subst (λ (x : List ℕ). Placing n slots ranks used t s R.Full x s' theWay) (sym (met .2))
-      (subst (λ (x : List ℕ). Placing n slots ranks used t s R.Full t x theWay) (sym (met .3)) (slotless (met .0) (met .1)))
+      subst (λ (x : List ℕ). WayLeaves R.Full x s') (sym (met .2)) (subst (λ (x : List ℕ). WayLeaves R.Full t x) (sym (met .3)) (slotless (met .0) (met .1)))
 
   -- The way to a new state: t₁, s₁ with the state stored, t₂, s₂ with its ways built.
-  module _ (m : Met) (t₁ s₁ : List ℕ) (new : m ≡ M.New) (came-new : Meeting n slots ranks used t s stepped m t₁ s₁) where
+  module _ (asking : Asking n ranks (slotAt n s at)) (m : Met) (t₁ s₁ : List ℕ) (new : m ≡ M.New) (came-new : Meeting n slots ranks used t s stepped m t₁ s₁) where
     meeting : Meeting n slots ranks used t s stepped M.New t₁ s₁
     meeting = subst (λ (x : Met). Meeting n slots ranks used t s stepped x t₁ s₁) new came-new
 
-    pub new-room : used < slots
-    new-room = meeting .1
+    slot-new : slotAt n s₁ used ≡ stepped
+    unfolding memoryOf statesIn stored
+    slot-new =
+        let met = ap (λ (m : Memory (slotsIn n ranks)). m .met) (meeting .2) in
+        sym (getD-tally (used + 1) (λ i. slotAt n s₁ i) [] used (omega arith))
+        ∙ ap (λ (l : List (List ℕ)). getD l used []) met
+        ∙ getD-at (statesIn n used s) stepped [] [] used (length-states n used s)
 
-    -- The new state's ways may be built.
+    -- The new state's ways may be built, and fewer tests remain in it.
     pub ready-new : length t₁ ≡ length t → length s₁ ≡ length s → Ready n slots ranks used (used + 1) t₁ s₁
     ready-new lt ls =
         let below = meeting .1 in
@@ -144,36 +147,36 @@ module _ (n slots : ℕ) (ranks : List ℕ) (left at used : ℕ) (o : Outcome) (
           scratched = subst (λ (k : ℕ). slotWords * slots ≤ k) (sym ls) (ready .scratched);
         }
 
-    abbrev pub theState : Placed (slotsIn n ranks)
-    theState = placeState (slotsIn n ranks) slots left used stepped (stored (slotsIn n ranks) stepped (memoryOf n ranks used t s))
+    pub good-new : GoodWords n ranks (slotAt n s₁ used)
+    good-new = rw slot-new (words-step o (asking .good) (asking .asks))
 
-    way-is : theWay ≡ andThen (slotsIn n ranks) theState (λ m'. room (linked (slotsIn n ranks) o at used m'))
+    fewer-left : testsLeft n (slotAt n s₁ used) < testsLeft n (slotAt n s at)
+    fewer-left = rw slot-new (words-fall o (asking .good) (asking .asks))
+
+    pub state-less : 2 * testsLeft n (slotAt n s₁ used) + 1 < 2 * testsLeft n (slotAt n s at)
+    state-less = omega (arith, fewer-left)
+
+    abbrev theState : ℕ → Placed (slotsIn n ranks)
+    theState left = placeState (slotsIn n ranks) slots left used stepped (stored (slotsIn n ranks) stepped (memoryOf n ranks used t s))
+
+    way-is : (left : ℕ) → theWay left ≡ andThen (slotsIn n ranks) (theState left) (λ m'. room (linked (slotsIn n ranks) o at used m'))
     unfolding memoryOf
-    way-is =
+    way-is left =
         let long = length-states n used s in
         way-new (slotsIn n ranks) slots (placeState (slotsIn n ranks) slots left) o at (slotAt n s at) stepped (memoryOf n ranks used t s) refl (meeting .0)
         (subst (λ (k : ℕ). k < slots) (sym long) (meeting .1))
         ∙ ap (λ (k : ℕ). andThen (slotsIn n ranks) (placeState (slotsIn n ranks) slots left k stepped (stored (slotsIn n ranks) stepped (memoryOf n ranks used t s)))
         (λ m'. room (linked (slotsIn n ranks) o at k m'))) long
 
-    slot-new : slotAt n s₁ used ≡ stepped
-    unfolding memoryOf statesIn stored
-    slot-new =
-        let met = ap (λ (m : Memory (slotsIn n ranks)). m .met) (meeting .2) in
-        sym (getD-tally (used + 1) (λ i. slotAt n s₁ i) [] used (omega arith))
-        ∙ ap (λ (l : List (List ℕ)). getD l used []) met
-        ∙ getD-at (statesIn n used s) stepped [] [] used (length-states n used s)
+    abbrev pub Building : Room → List ℕ → List ℕ → Type 0
+    Building r t₂ s₂ = StatePlaced n slots ranks used (used + 1) t₁ s₁ r t₂ s₂
 
     -- What the state builder promises of the new state is what the theory says of it.
-    state-is : placeState (slotsIn n ranks) slots left used (slotAt n s₁ used) (memoryOf n ranks (used + 1) t₁ s₁) ≡ theState
-    state-is =
-        ap (λ (w : List ℕ). placeState (slotsIn n ranks) slots left used w (memoryOf n ranks (used + 1) t₁ s₁)) slot-new
+    state-is : (r : Room) (t₂ s₂ : List ℕ) → Building r t₂ s₂ → (left : ℕ) → testsLeft n (slotAt n s at) ≤ left + 1 → outOf n ranks r t₂ s₂ ≡ theState left
+    state-is r t₂ s₂ b left h =
+        b .comes left (omega (arith, fewer-left))
+        ∙ ap (λ (w : List ℕ). placeState (slotsIn n ranks) slots left used w (memoryOf n ranks (used + 1) t₁ s₁)) slot-new
         ∙ ap (λ (m : Memory (slotsIn n ranks)). placeState (slotsIn n ranks) slots left used stepped m) (meeting .2)
-
-    abbrev pub Building : Room → List ℕ → List ℕ → Type 0
-    Building r t₂ s₂ =
-        Placing n slots ranks (used + 1) t₁ s₁ r t₂ s₂
-        (placeState (slotsIn n ranks) slots left used (slotAt n s₁ used) (memoryOf n ranks (used + 1) t₁ s₁))
 
     drop-new : (k : ℕ) → used + 1 ≤ k → drop (recordWords * k) t₁ ≡ drop (recordWords * k) t
     drop-new k h = later (recordWords * (used + 1)) (recordWords * k) t₁ t (omega arith) (meeting .3)
@@ -181,14 +184,15 @@ module _ (n slots : ℕ) (ranks : List ℕ) (left at used : ℕ) (o : Outcome) (
     kept-new : (r : Room) (t₂ s₂ : List ℕ) → Building r t₂ s₂ → take (slotWords * used) s₂ ≡ take (slotWords * used) s
     kept-new r t₂ s₂ b = earlier (slotWords * used) (slotWords * (used + 1)) s₂ s₁ (omega arith) (b .kept) ∙ meeting .4
 
-    pub placed-new-full : (r : Room) (t₂ s₂ : List ℕ) → r ≡ R.Full → Building r t₂ s₂ → Placing n slots ranks used t s R.Full t₂ s₂ theWay
+    pub placed-new-full : (r : Room) (t₂ s₂ : List ℕ) → r ≡ R.Full → Building r t₂ s₂ → WayLeaves R.Full t₂ s₂
     unfolding outOf andThen
     placed-new-full r t₂ s₂ e b₀ =
         let b : Building R.Full t₂ s₂ = subst (λ (x : Room). Building x t₂ s₂) e b₀ in
         let room-left = meeting .1 in
         let fewer : used + 1 ≤ slots = omega arith in
         record {
-          comes = sym (way-is ∙ ap (λ (p : Placed (slotsIn n ranks)). andThen (slotsIn n ranks) p (λ m'. room (linked (slotsIn n ranks) o at used m'))) (sym (b .comes ∙ state-is)));
+          comes = λ left h.
+              sym (way-is left ∙ ap (λ (p : Placed (slotsIn n ranks)). andThen (slotsIn n ranks) p (λ m'. room (linked (slotsIn n ranks) o at used m'))) (sym (state-is R.Full t₂ s₂ b left h)));
           grows = tt;
           after = tt;
           behind = b .behind ∙ drop-new slots fewer;
@@ -196,8 +200,7 @@ module _ (n slots : ℕ) (ranks : List ℕ) (left at used : ℕ) (o : Outcome) (
           beyond = b .beyond ∙ meeting .5;
         }
 
-    linked-new : (u : ℕ) (t₂ s₂ : List ℕ) → Building (R.Used u) t₂ s₂
-        → Placing n slots ranks used t s (R.Used u) (set t₂ (recordWords * at + nextWord o) used) s₂ theWay
+    linked-new : (u : ℕ) (t₂ s₂ : List ℕ) → Building (R.Used u) t₂ s₂ → WayLeaves (R.Used u) (set t₂ (recordWords * at + nextWord o) used) s₂
     unfolding outOf andThen
     linked-new u t₂ s₂ b =
         let at-used = ready .inside in
@@ -206,9 +209,9 @@ module _ (n slots : ℕ) (ranks : List ℕ) (left at used : ℕ) (o : Outcome) (
         let room-left = meeting .1 in
         let fewer : used + 1 ≤ slots = omega arith in
         record {
-          comes =
-              sym (way-is
-              ∙ ap (λ (p : Placed (slotsIn n ranks)). andThen (slotsIn n ranks) p (λ m'. room (linked (slotsIn n ranks) o at used m'))) (sym (b .comes ∙ state-is))
+          comes = λ left h.
+              sym (way-is left
+              ∙ ap (λ (p : Placed (slotsIn n ranks)). andThen (slotsIn n ranks) p (λ m'. room (linked (slotsIn n ranks) o at used m'))) (sym (state-is (R.Used u) t₂ s₂ b left h))
               ∙ ap (λ (m : Memory (slotsIn n ranks)). room m) (memory-linked n ranks u at used o t₂ s₂ (omega arith)));
           grows = (omega arith, fits);
           after = drop-linked t₂ at u o used (omega arith) ∙ b .after ∙ drop-new u more;
@@ -217,10 +220,9 @@ module _ (n slots : ℕ) (ranks : List ℕ) (left at used : ℕ) (o : Outcome) (
           beyond = b .beyond ∙ meeting .5;
         }
 
-    pub placed-new : (w u : ℕ) (r : Room) (t₂ s₂ : List ℕ) → w ≡ nextWord o → r ≡ R.Used u → Building r t₂ s₂
-        → Placing n slots ranks used t s (R.Used u) (set t₂ (recordWords * at + w) used) s₂ theWay
+    pub placed-new : (w u : ℕ) (r : Room) (t₂ s₂ : List ℕ) → w ≡ nextWord o → r ≡ R.Used u → Building r t₂ s₂ → WayLeaves (R.Used u) (set t₂ (recordWords * at + w) used) s₂
     placed-new w u r t₂ s₂ ew e b =
-        subst (λ (k : ℕ). Placing n slots ranks used t s (R.Used u) (set t₂ (recordWords * at + k) used) s₂ theWay) (sym ew)
+        subst (λ (k : ℕ). WayLeaves (R.Used u) (set t₂ (recordWords * at + k) used) s₂) (sym ew)
         (linked-new u t₂ s₂ (subst (λ (x : Room). Building x t₂ s₂) e b))
 
 -- A state lies in the slot whose ways are built.
@@ -241,17 +243,13 @@ word-within n slots ranks at used w o t s r e =
     let below = next-word-within o in
     omega arith
 
--- The questions that may follow fall: first from a state to its ways, then from a way to its state.
-pub way-less : (left : ℕ) → (left ≡ 0 → ⊥) → 2 * (left - 1) + 1 < 2 * left
-way-less left h = omega arith
-
-pub state-less : (left : ℕ) → 2 * left < 2 * left + 1
-state-less left = omega arith
-
 -- The ways of a state, from what the way builder promises of each.
-module _ (n slots : ℕ) (ranks : List ℕ) (left at used : ℕ) (t s : List ℕ) (ready : Ready n slots ranks at used t s) where
+module _ (n slots : ℕ) (ranks : List ℕ) (at used : ℕ) (t s : List ℕ) (ready : Ready n slots ranks at used t s) where
+  abbrev StateLeaves : Room → List ℕ → List ℕ → Type 0
+  StateLeaves r t' s' = StatePlaced n slots ranks at used t s r t' s'
+
   abbrev ways : ℕ → Placed (slotsIn n ranks)
-  ways f = placeState (slotsIn n ranks) slots f at (slotAt n s at) (memoryOf n ranks used t s)
+  ways left = placeState (slotsIn n ranks) slots left at (slotAt n s at) (memoryOf n ranks used t s)
 
   -- What is ready stays so with more slots used.
   ready-on : (u : ℕ) (t' s' : List ℕ) → used ≤ u → u ≤ slots → length t' ≡ length t → length s' ≡ length s → Ready n slots ranks at u t' s'
@@ -267,33 +265,43 @@ module _ (n slots : ℕ) (ranks : List ℕ) (left at used : ℕ) (t s : List ℕ
         scratched = subst (λ (k : ℕ). slotWords * slots ≤ k) (sym ls) (ready .scratched);
       }
 
-  stays : outOf n ranks (R.Used used) t s ≡ ways left → Placing n slots ranks used t s (R.Used used) t s (ways left)
-  stays e = record { comes = e; grows = (omega arith, ready .within); after = refl; behind = refl; kept = refl; beyond = refl }
-
-  pub none-left : left ≡ 0 → Placing n slots ranks used t s (R.Used used) t s (ways left)
-  unfolding outOf placeState
-  none-left e = stays (ap ways (sym e))
-
-  pub none-asked : asksIn n (slotAt n s at) ≡ false → Placing n slots ranks used t s (R.Used used) t s (ways left)
+  pub none-asked : asksIn n (slotAt n s at) ≡ false → StateLeaves (R.Used used) t s
   unfolding outOf
-  none-asked q = stays (sym (state-final (slotsIn n ranks) slots left at (slotAt n s at) (memoryOf n ranks used t s) q))
+  none-asked q =
+      record {
+        comes = λ left _. sym (state-final (slotsIn n ranks) slots left at (slotAt n s at) (memoryOf n ranks used t s) q);
+        grows = (omega arith, ready .within);
+        after = refl;
+        behind = refl;
+        kept = refl;
+        beyond = refl;
+      }
 
   -- The third way starts where the second ended, the second where the first ended.
-  module _ (more-left : left ≡ 0 → ⊥) (asked : asksIn n (slotAt n s at) ≡ true) where
-    whole : suc (left - 1) ≡ left
-    whole = omega arith
+  module _ (asking : Asking n ranks (slotAt n s at)) where
+    -- A state that asks has a test left, so a bound that is enough is never 0.
+    one-more : (p : Placed (slotsIn n ranks)) → ((left : ℕ) → testsLeft n (slotAt n s at) ≤ left + 1 → p ≡ ways (suc left))
+        → (left : ℕ) → testsLeft n (slotAt n s at) ≤ left → p ≡ ways left
+    one-more p more zero h = absurd (omega (arith, words-fall O.Holds (asking .good) (asking .asks)))
+    one-more p more (suc left) h = more left (omega arith)
 
-    abbrev pub Way : Outcome → ℕ → List ℕ → List ℕ → Room → List ℕ → List ℕ → Type 0
-    Way o u tᵤ sᵤ r t' s' =
-        Placing n slots ranks u tᵤ sᵤ r t' s'
-        (placeWay (slotsIn n ranks) slots (placeState (slotsIn n ranks) slots (left - 1)) o at (slotAt n sᵤ at) (memoryOf n ranks u tᵤ sᵤ))
+    abbrev Way : Outcome → ℕ → List ℕ → List ℕ → Room → List ℕ → List ℕ → Type 0
+    Way o u tᵤ sᵤ r t' s' = WayPlaced n slots ranks o at u tᵤ sᵤ r t' s'
 
-    pub first-full : (r : Room) (t₁ s₁ : List ℕ) → r ≡ R.Full → Way O.Holds used t s r t₁ s₁ → Placing n slots ranks used t s R.Full t₁ s₁ (ways left)
+    -- The words of the state that the ways lead from are as they were, so what a later way promises is said of them.
+    came : (o : Outcome) (u : ℕ) (t' s' : List ℕ) (r : Room) (t'' s'' : List ℕ) → slotAt n s' at ≡ slotAt n s at → Way o u t' s' r t'' s''
+        → (left : ℕ) → testsLeft n (slotAt n s at) ≤ left + 1
+        → outOf n ranks r t'' s'' ≡ placeWay (slotsIn n ranks) slots (placeState (slotsIn n ranks) slots left) o at (slotAt n s at) (memoryOf n ranks u t' s')
+    came o u t' s' r t'' s'' e b left h =
+        b .comes left (subst (λ (w : List ℕ). testsLeft n w ≤ left + 1) (sym e) h)
+        ∙ ap (λ (w : List ℕ). placeWay (slotsIn n ranks) slots (placeState (slotsIn n ranks) slots left) o at w (memoryOf n ranks u t' s')) e
+
+    pub first-full : (r : Room) (t₁ s₁ : List ℕ) → r ≡ R.Full → Way O.Holds used t s r t₁ s₁ → StateLeaves R.Full t₁ s₁
     unfolding outOf
     first-full r t₁ s₁ e a₀ =
         let a : Way O.Holds used t s R.Full t₁ s₁ = subst (λ (x : Room). Way O.Holds used t s x t₁ s₁) e a₀ in
         record {
-          comes = sym (state-full (slotsIn n ranks) slots (left - 1) at (slotAt n s at) (memoryOf n ranks used t s) asked (sym (a .comes))) ∙ ap ways whole;
+          comes = one-more full (λ left h. sym (state-full (slotsIn n ranks) slots left at (slotAt n s at) (memoryOf n ranks used t s) (asking .asks) (sym (a .comes left h))));
           grows = tt;
           after = tt;
           behind = a .behind;
@@ -308,7 +316,7 @@ module _ (n slots : ℕ) (ranks : List ℕ) (left at used : ℕ) (t s : List ℕ
       pub ready-second : length t₁ ≡ length t → length s₁ ≡ length s → Ready n slots ranks at u₁ t₁ s₁
       ready-second lt ls = ready-on u₁ t₁ s₁ (a .grows .0) (a .grows .1) lt ls
 
-      slot-first : slotAt n s₁ at ≡ slotAt n s at
+      pub slot-first : slotAt n s₁ at ≡ slotAt n s at
       slot-first = slot-kept n used at s s₁ (ready .filters) (ready .inside) (a .kept)
 
       kept-by : (s₂ : List ℕ) → take (slotWords * u₁) s₂ ≡ take (slotWords * u₁) s₁ → take (slotWords * used) s₂ ≡ take (slotWords * used) s
@@ -316,18 +324,14 @@ module _ (n slots : ℕ) (ranks : List ℕ) (left at used : ℕ) (t s : List ℕ
           let more = a .grows .0 in
           earlier (slotWords * used) (slotWords * u₁) s₂ s₁ (omega arith) e ∙ a .kept
 
-      came : (o : Outcome) (r : Room) (t₂ s₂ : List ℕ) → Way o u₁ t₁ s₁ r t₂ s₂
-          → outOf n ranks r t₂ s₂ ≡ placeWay (slotsIn n ranks) slots (placeState (slotsIn n ranks) slots (left - 1)) o at (slotAt n s at) (memoryOf n ranks u₁ t₁ s₁)
-      came o r t₂ s₂ b =
-          b .comes
-          ∙ ap (λ (w : List ℕ). placeWay (slotsIn n ranks) slots (placeState (slotsIn n ranks) slots (left - 1)) o at w (memoryOf n ranks u₁ t₁ s₁)) slot-first
-
-      pub second-full : (r : Room) (t₂ s₂ : List ℕ) → r ≡ R.Full → Way O.Fails u₁ t₁ s₁ r t₂ s₂ → Placing n slots ranks used t s R.Full t₂ s₂ (ways left)
+      pub second-full : (r : Room) (t₂ s₂ : List ℕ) → r ≡ R.Full → Way O.Fails u₁ t₁ s₁ r t₂ s₂ → StateLeaves R.Full t₂ s₂
       unfolding outOf
       second-full r t₂ s₂ e b₀ =
           let b : Way O.Fails u₁ t₁ s₁ R.Full t₂ s₂ = subst (λ (x : Room). Way O.Fails u₁ t₁ s₁ x t₂ s₂) e b₀ in
           record {
-            comes = sym (state-room-full (slotsIn n ranks) slots (left - 1) at (slotAt n s at) (memoryOf n ranks used t s) (memoryOf n ranks u₁ t₁ s₁) asked (sym (a .comes)) (sym (came O.Fails R.Full t₂ s₂ b))) ∙ ap ways whole;
+            comes = one-more full (λ left h.
+                sym (state-room-full (slotsIn n ranks) slots left at (slotAt n s at) (memoryOf n ranks used t s) (memoryOf n ranks u₁ t₁ s₁) (asking .asks)
+                (sym (a .comes left h)) (sym (came O.Fails u₁ t₁ s₁ R.Full t₂ s₂ slot-first b left h))));
             grows = tt;
             after = tt;
             behind = b .behind ∙ a .behind;
@@ -345,7 +349,7 @@ module _ (n slots : ℕ) (ranks : List ℕ) (left at used : ℕ) (t s : List ℕ
             let two = b .grows .0 in
             ready-on u₂ t₂ s₂ (omega arith) (b .grows .1) lt ls
 
-        slot-second : slotAt n s₂ at ≡ slotAt n s at
+        pub slot-second : slotAt n s₂ at ≡ slotAt n s at
         slot-second =
             let inside = ready .inside in
             let more = a .grows .0 in
@@ -373,18 +377,24 @@ module _ (n slots : ℕ) (ranks : List ℕ) (left at used : ℕ) (t s : List ℕ
             ∙ later (recordWords * u₂) (recordWords * u) t₂ t₁ (omega arith) (b .after)
             ∙ later (recordWords * u₁) (recordWords * u) t₁ t (omega arith) (a .after)
 
-        pub third : (r : Room) (t₃ s₃ : List ℕ) → Way O.Absent u₂ t₂ s₂ r t₃ s₃ → Placing n slots ranks used t s r t₃ s₃ (ways left)
+        pub third : (r : Room) (t₃ s₃ : List ℕ) → Way O.Absent u₂ t₂ s₂ r t₃ s₃ → StateLeaves r t₃ s₃
         unfolding outOf
         third r t₃ s₃ c =
             record {
-              comes =
-                  sym (state-rooms (slotsIn n ranks) slots (left - 1) at (slotAt n s at) (memoryOf n ranks used t s) (memoryOf n ranks u₁ t₁ s₁) (memoryOf n ranks u₂ t₂ s₂)
-                  (outOf n ranks r t₃ s₃) asked (sym (a .comes)) (sym (came O.Fails (R.Used u₂) t₂ s₂ b))
-                  (sym (c .comes ∙ ap (λ (w : List ℕ). placeWay (slotsIn n ranks) slots (placeState (slotsIn n ranks) slots (left - 1)) O.Absent at w (memoryOf n ranks u₂ t₂ s₂)) slot-second)))
-                  ∙ ap ways whole;
+              comes = one-more (outOf n ranks r t₃ s₃) (λ left h.
+                  sym (state-rooms (slotsIn n ranks) slots left at (slotAt n s at) (memoryOf n ranks used t s) (memoryOf n ranks u₁ t₁ s₁) (memoryOf n ranks u₂ t₂ s₂)
+                  (outOf n ranks r t₃ s₃) (asking .asks) (sym (a .comes left h)) (sym (came O.Fails u₁ t₁ s₁ (R.Used u₂) t₂ s₂ slot-first b left h))
+                  (sym (came O.Absent u₂ t₂ s₂ r t₃ s₃ slot-second c left h))));
               grows = grown r (c .grows);
               after = after-all r t₃ (c .grows) (c .after);
               behind = c .behind ∙ b .behind ∙ a .behind;
               kept = kept-both s₃ (c .kept);
               beyond = c .beyond ∙ b .beyond ∙ a .beyond;
             }
+
+-- A later way finds the words of its state as they were: they still ask, and the way's measure is below the state's.
+pub asking-on : (n : ℕ) (ranks w w' : List ℕ) → w' ≡ w → Asking n ranks w → Asking n ranks w'
+asking-on n ranks w w' e a = subst (λ (x : List ℕ). Asking n ranks x) (sym e) a
+
+pub way-less : (n : ℕ) (w w' : List ℕ) → w' ≡ w → 2 * testsLeft n w' < 2 * testsLeft n w + 1
+way-less n w w' e = rw e (omega arith)

@@ -3,20 +3,25 @@
 --   Stored      what storing a state and its record leaves
 --   Grown       the slots used grow, and stay within the slots there are
 --   AfterKept   the table's words after the last record stay
---   Placing     what placing ways or states leaves, where the theory says p
+--   Asking      the words of a state that asks
+--   Placing     what placing ways or states leaves; Says is what the theory says of the states and records
+--   StatePlaced, WayPlaced   what the state builder and the way builder leave: what the theory places with any number of questions that is enough
 --   Meeting     what meeting the state c leaves, by the answer
 use Prim.Native.Nat.{ℕ, _+_, _*_, _≤_, _<_}
 use mathlib.Core.Path.{_≡_}
-use mathlib.Core.Bool.{Bool, true, false}
+use mathlib.Core.Bool.{true, false}
 use mathlib.Core.List.{List}
 use lib.ListN.{length, take, drop}
 use Rattle.lists.specs.Filters.{maxFilters}
 use Rattle.tables.specs.Tables.{recordWords, maxSlots}
+use Rattle.residue.specs.declared.Outcome.{Outcome}
 use Rattle.slots.specs.Words.{filterSlot, slotWords}
+use Rattle.slots.specs.Slots.{asksIn}
 use Rattle.machine.specs.Box.{slotsIn}
+use Rattle.machine.specs.Remaining.{GoodWords, testsLeft}
 use Rattle.automaton.specs.Machines.{meets, placeOf}
-use Rattle.automaton.specs.Placing.{Memory, Placed, stored}
-use Rattle.builder.specs.Memory.{memoryOf, statesIn, outOf}
+use Rattle.automaton.specs.Placing.{Placed, stored, placeWay, placeState}
+use Rattle.builder.specs.Memory.{slotAt, memoryOf, statesIn, outOf}
 use Rattle.builder.specs.declared.Room.{Room}
 use Rattle.builder.specs.declared.Room.the-variants as R
 use Rattle.builder.specs.declared.Met.{Met}
@@ -35,6 +40,11 @@ pub record Ready (n slots : ℕ) (ranks : List ℕ) (at used : ℕ) (t s : List 
 pub record Held (n at : ℕ) (s : List ℕ) : Type 0 where
   pub filters : n ≤ maxFilters
   pub slotted : slotWords * (at + 1) ≤ length s
+
+-- The words of a list's state, which has a question.
+pub record Asking (n : ℕ) (ranks w : List ℕ) : Type 0 where
+  pub good : GoodWords n ranks w
+  pub asks : asksIn n w ≡ true
 
 -- The slots used are searched for a candidate.
 pub record Search (n used : ℕ) (s c : List ℕ) : Type 0 where
@@ -67,13 +77,26 @@ abbrev pub AfterKept : Room → List ℕ → List ℕ → Type 0
 AfterKept R.Full t t' = Unit {0}
 AfterKept (R.Used u) t t' = drop (recordWords * u) t' ≡ drop (recordWords * u) t
 
-pub record Placing (n slots : ℕ) (ranks : List ℕ) (used : ℕ) (t s : List ℕ) (r : Room) (t' s' : List ℕ) (p : Placed (slotsIn n ranks)) : Type 0 where
-  pub comes : outOf n ranks r t' s' ≡ p
+pub record Placing (n slots : ℕ) (ranks : List ℕ) (used : ℕ) (t s : List ℕ) (r : Room) (t' s' : List ℕ) (Says : Placed (slotsIn n ranks) → Type 0) : Type 0 where
+  pub comes : Says (outOf n ranks r t' s')
   pub grows : Grown used slots r
   pub after : AfterKept r t t'
   pub behind : drop (recordWords * slots) t' ≡ drop (recordWords * slots) t
   pub kept : take (slotWords * used) s' ≡ take (slotWords * used) s
   pub beyond : drop (slotWords * slots) s' ≡ drop (slotWords * slots) s
+
+-- The theory is given a number of questions, the code none: any number will do that is no less than the tests that remain in the state of slot `at`.
+abbrev pub StatePlaced : (n slots : ℕ) (ranks : List ℕ) (at used : ℕ) (t s : List ℕ) → Room → List ℕ → List ℕ → Type 0
+StatePlaced n slots ranks at used t s r t' s' =
+    Placing n slots ranks used t s r t' s'
+    (λ p. (left : ℕ) → testsLeft n (slotAt n s at) ≤ left → p ≡ placeState (slotsIn n ranks) slots left at (slotAt n s at) (memoryOf n ranks used t s))
+
+-- The question that the way answers counts as one of them.
+abbrev pub WayPlaced : (n slots : ℕ) (ranks : List ℕ) (o : Outcome) (at used : ℕ) (t s : List ℕ) → Room → List ℕ → List ℕ → Type 0
+WayPlaced n slots ranks o at used t s r t' s' =
+    Placing n slots ranks used t s r t' s'
+    (λ p. (left : ℕ) → testsLeft n (slotAt n s at) ≤ left + 1
+    → p ≡ placeWay (slotsIn n ranks) slots (placeState (slotsIn n ranks) slots left) o at (slotAt n s at) (memoryOf n ranks used t s))
 
 -- An old state and a lack of room change no word; a new state takes the next slot and record.
 abbrev pub Meeting : (n slots : ℕ) (ranks : List ℕ) → ℕ → List ℕ → List ℕ → List ℕ → Met → List ℕ → List ℕ → Type 0

@@ -1,24 +1,24 @@
 -- The start is stored as state 0, and the rest follows from it.
 -- Assumes nothing.
-use Prim.Native.Nat.{ℕ, zero, suc, _+_, _*_, _≤_, _<_}
+use Prim.Native.Nat.{ℕ, _*_, _≤_, _<_}
 use mathlib.Core.Path.{_≡_, refl, ap, sym, _∙_, subst}
-use mathlib.Core.Bool.{Bool, true, false}
-use mathlib.Core.List.{List, [], _∷_, _++_}
+use mathlib.Core.List.{List, []}
 use native.Mathlib.Omega.{arith}
-use lib.Dec.{leb}
-use lib.ListN.{length, take, drop, getD}
+use lib.ListN.{getD}
 use borrow.Author.Tests.{lt-leb}
-use Rattle.lists.specs.Filters.{maxFilters}
+use Rattle.lists.specs.Filters.{filtersOf}
 use Rattle.sets.specs.Sets.{tally}
-use Rattle.tables.specs.Tables.{recordWords, maxSlots}
-use Rattle.slots.specs.Words.{slotWords}
+use Rattle.tables.specs.Tables.{recordWords}
+use Rattle.slots.specs.Slots.{startWords}
 use Rattle.machine.specs.Box.{slotsIn}
+use Rattle.machine.specs.Carried.{whole, list-placed}
+use Rattle.machine.specs.Remaining.{GoodWords, testsLeft, words-start, left-start}
 use Rattle.automaton.specs.Machines.{Machine}
-use Rattle.automaton.specs.Placing.{Memory, Placed, full, room, stored, placeState, placeAll}
+use Rattle.automaton.specs.Placing.{Memory, Placed, full, stored, placeState, placeAll}
 use Rattle.builder.specs.Memory.{slotAt, statesIn, recordsAt, memoryOf, outOf}
 use Rattle.builder.specs.Placed.{later}
-use Rattle.builder.specs.Promises.{Ready, Store, Stored, Placing, Grown, AfterKept}
-use Rattle.builder.specs.Building.{Started}
+use Rattle.builder.specs.Promises.{Stored, StatePlaced, Grown, AfterKept}
+use Rattle.builder.specs.Building.{Startable, Started}
 use Rattle.builder.specs.declared.Room.{Room}
 use Rattle.builder.specs.declared.Room.the-variants as R
 
@@ -30,28 +30,47 @@ all-started : (M : Machine) (slots f : ℕ) (s : M .State) → 0 < slots → pla
 unfolding placeAll
 all-started M slots f s h = rw (lt-leb slots 0 h, placeAll)
 
-module _ (n slots : ℕ) (ranks : List ℕ) (left : ℕ) (c t s : List ℕ) where
+module _ (n slots : ℕ) (ranks l t s : List ℕ) (able : Startable n slots ranks l t s) where
+  abbrev begin : List ℕ
+  begin = startWords n ranks l
+
+  -- As many questions as the list has tests are enough.
+  abbrev tests : ℕ
+  tests = able .listing .0
+
   abbrev theAll : Placed (slotsIn n ranks)
-  theAll = placeAll (slotsIn n ranks) slots left c
+  theAll = placeAll (slotsIn n ranks) slots tests begin
 
-  pub started-none : slots ≡ 0 → Started n slots ranks t s R.Full t s theAll
+  all-is : theAll ≡ whole n ranks (filtersOf l) slots
+  all-is =
+      subst (λ (x : List ℕ). placeAll (slotsIn n x) slots tests (startWords n x l) ≡ whole n x (filtersOf l) slots) (sym (able .ranked))
+      (list-placed l n tests slots (able .listing .1))
+
+  pub started-none : slots ≡ 0 → Started n slots ranks (filtersOf l) t s R.Full t s
   unfolding outOf
-  started-none e = record { comes = sym (all-full (slotsIn n ranks) slots left c e); grows = tt; after = tt; behind = refl; beyond = refl }
+  started-none e = record { comes = sym (all-full (slotsIn n ranks) slots tests begin e) ∙ all-is; grows = tt; after = tt; behind = refl; beyond = refl }
 
-  module _ (some-slot : 0 < slots) (t₁ s₁ : List ℕ) (kept : Stored n slots ranks 0 t s c t₁ s₁) where
-    slot-is : slotAt n s₁ 0 ≡ c
+  module _ (some-slot : 0 < slots) (t₁ s₁ : List ℕ) (kept : Stored n slots ranks 0 t s begin t₁ s₁) where
+    slot-is : slotAt n s₁ 0 ≡ begin
     unfolding memoryOf statesIn stored tally
     slot-is = ap (λ (m : Memory (slotsIn n ranks)). getD (m .met) 0 []) (kept .memory)
 
-    memory-is : memoryOf n ranks 1 t₁ s₁ ≡ stored (slotsIn n ranks) c (record { met = []; records = [] })
+    memory-is : memoryOf n ranks 1 t₁ s₁ ≡ stored (slotsIn n ranks) begin (record { met = []; records = [] })
     unfolding memoryOf statesIn recordsAt tally
     memory-is = kept .memory
 
-    state-is : placeState (slotsIn n ranks) slots left 0 (slotAt n s₁ 0) (memoryOf n ranks 1 t₁ s₁) ≡ theAll
+    -- The start's ways may be built.
+    pub good-begin : GoodWords n ranks (slotAt n s₁ 0)
+    good-begin = rw (slot-is, able .ranked) (words-start l n tests (able .listing .1))
+
+    enough : testsLeft n (slotAt n s₁ 0) ≤ tests
+    enough = rw slot-is (subst (λ (x : List ℕ). testsLeft n (startWords n x l) ≤ tests) (sym (able .ranked)) (left-start l n tests (able .listing .1)))
+
+    state-is : placeState (slotsIn n ranks) slots tests 0 (slotAt n s₁ 0) (memoryOf n ranks 1 t₁ s₁) ≡ theAll
     state-is =
-        ap (λ (w : List ℕ). placeState (slotsIn n ranks) slots left 0 w (memoryOf n ranks 1 t₁ s₁)) slot-is
-        ∙ ap (λ (m : Memory (slotsIn n ranks)). placeState (slotsIn n ranks) slots left 0 c m) memory-is
-        ∙ sym (all-started (slotsIn n ranks) slots left c some-slot)
+        ap (λ (w : List ℕ). placeState (slotsIn n ranks) slots tests 0 w (memoryOf n ranks 1 t₁ s₁)) slot-is
+        ∙ ap (λ (m : Memory (slotsIn n ranks)). placeState (slotsIn n ranks) slots tests 0 begin m) memory-is
+        ∙ sym (all-started (slotsIn n ranks) slots tests begin some-slot)
 
     grown : (r : Room) → Grown 1 slots r → Grown 0 slots r
     grown R.Full g = tt
@@ -63,12 +82,10 @@ module _ (n slots : ℕ) (ranks : List ℕ) (left : ℕ) (c t s : List ℕ) wher
         let more = g .0 in
         e ∙ later (recordWords * 1) (recordWords * u) t₁ t (omega arith) (kept .after)
 
-    pub started : (r : Room) (t' s' : List ℕ)
-        → Placing n slots ranks 1 t₁ s₁ r t' s' (placeState (slotsIn n ranks) slots left 0 (slotAt n s₁ 0) (memoryOf n ranks 1 t₁ s₁))
-        → Started n slots ranks t s r t' s' theAll
+    pub started : (r : Room) (t' s' : List ℕ) → StatePlaced n slots ranks 0 1 t₁ s₁ r t' s' → Started n slots ranks (filtersOf l) t s r t' s'
     started r t' s' p =
         record {
-          comes = p .comes ∙ state-is;
+          comes = p .comes tests enough ∙ state-is ∙ all-is;
           grows = grown r (p .grows);
           after = after-all r t' (p .grows) (p .after);
           behind = p .behind ∙ later (recordWords * 1) (recordWords * slots) t₁ t (omega arith) (kept .after);

@@ -1,6 +1,7 @@
 // A list is compiled into a lent table (document 01, "States and the table" and "Refusal numbers").
 use lists::Listed;
 ghost use mathlib.Core.Path.{_≡_};
+ghost use Prim.Native.Nat.{ℕ};
 ghost use Rattle.lists.specs.Filters.{filtersOf};
 ghost use Rattle.lists.specs.Refusals.{listed};
 ghost use Rattle.lists.specs.declared.Listed.the-variants.{Accepted};
@@ -36,15 +37,9 @@ pub enum Met {
     Full,
 }
 
-// Compiles an accepted list of n filters and so many tests.
-fn build_accepted(
-    list: &[u32],
-    n: usize,
-    tests: u32,
-    table: &mut [u32],
-    scratch: &mut [u32],
-) -> Built
-    requires { ⌜ listed (now list) ≡ Accepted n tests ⌝ }
+// Compiles an accepted list of n filters.
+fn build_accepted(list: &[u32], n: usize, table: &mut [u32], scratch: &mut [u32]) -> Built
+    requires { ⌜ ((k : ℕ) × (listed (now list) ≡ Accepted n k)) ⌝ }
     ensures { λ r. ⌜ Answered (accepted (filtersOf (now (list .entry))) (now (table .entry)) (now (scratch .entry))) r (now (table .exit)) (now (scratch .exit)) ⌝ }
 {
     let slots = tables::slots_of(table.len());
@@ -53,7 +48,7 @@ fn build_accepted(
     }
     let mut ranks = [0u32; 32];
     lists::rank_sets(list, &mut ranks);
-    let room = start::place_start(&ranks, list, n, slots, tests, table, scratch);
+    let room = start::place_start(&ranks, list, n, slots, table, scratch);
     words::clear(scratch, 1024 * slots);
     match room {
         Room::Used(states) => Built::States(states as u32),
@@ -70,12 +65,6 @@ pub fn build(list: &[u32], table: &mut [u32], scratch: &mut [u32]) -> Built
 {
     match lists::check(list) {
         Listed::Refused(number, filter) => Built::Refused(number, filter),
-        Listed::Accepted(filters, tests) => build_accepted(
-            list,
-            filters as usize,
-            tests,
-            table,
-            scratch,
-        ),
+        Listed::Accepted(filters, _) => build_accepted(list, filters as usize, table, scratch),
     }
 }

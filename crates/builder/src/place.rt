@@ -5,13 +5,13 @@ use crate::meet::asks;
 use crate::meet::meet;
 use residue::Outcome;
 ghost use mathlib.Core.Path.{_≡_};
-ghost use Prim.Native.Nat.{_+_, _*_, _≤_};
+ghost use Prim.Native.Nat.{_*_, _≤_};
 ghost use lib.ListN.{length};
 ghost use Rattle.slots.specs.Words.{filterSlot};
-ghost use Rattle.automaton.specs.Placing.{placeState, placeWay, nextWord};
-ghost use Rattle.machine.specs.Box.{slotsIn};
-ghost use Rattle.builder.specs.Memory.{slotAt, memoryOf};
-ghost use Rattle.builder.specs.Promises.{Ready, Placing};
+ghost use Rattle.automaton.specs.Placing.{nextWord};
+ghost use Rattle.machine.specs.Remaining.{GoodWords};
+ghost use Rattle.builder.specs.Memory.{slotAt};
+ghost use Rattle.builder.specs.Promises.{Ready, Asking, StatePlaced, WayPlaced};
 
 // The word of a record that holds the next number at an outcome.
 fn next_word(o: Outcome) -> usize
@@ -24,12 +24,11 @@ fn next_word(o: Outcome) -> usize
     }
 }
 
-// Builds the way of an outcome from the state in slot `at`: its state, and that state's ways if it is new, of which at most `left` questions follow one another. The words are room for `meet`.
+// Builds the way of an outcome from the state in slot `at`, which has a question: its state, and that state's ways if it is new. Fewer tests remain in the new state, so this ends. The words are room for `meet`.
 fn place_way(
     ranks: &[u32],
     n: usize,
     slots: usize,
-    left: u32,
     table: &mut [u32],
     scratch: &mut [u32],
     words: &mut [u32],
@@ -39,7 +38,8 @@ fn place_way(
 ) -> Room
     requires { ⌜ Ready n slots (now ranks) at used (now table) (now scratch) ⌝ }
     requires { ⌜ filterSlot * n ≤ length (now words) ⌝ }
-    ensures { λ r. ⌜ Placing n slots (now (ranks .entry)) used (now (table .entry)) (now (scratch .entry)) r (now (table .exit)) (now (scratch .exit)) (placeWay (slotsIn n (now (ranks .entry))) slots (placeState (slotsIn n (now (ranks .entry))) slots left) o at (slotAt n (now (scratch .entry)) at) (memoryOf n (now (ranks .entry)) used (now (table .entry)) (now (scratch .entry)))) ⌝ }
+    requires { ⌜ Asking n (now ranks) (slotAt n (now scratch) at) ⌝ }
+    ensures { λ r. ⌜ WayPlaced n slots (now (ranks .entry)) o at used (now (table .entry)) (now (scratch .entry)) r (now (table .exit)) (now (scratch .exit)) ⌝ }
 {
     let word = 9 * at + next_word(o);
     match meet(ranks, n, slots, table, scratch, words, at, o, used) {
@@ -49,7 +49,7 @@ fn place_way(
         }
         Met::Full => Room::Full,
         Met::New => {
-            let placed = place_state(ranks, n, slots, left, table, scratch, words, used, used + 1);
+            let placed = place_state(ranks, n, slots, table, scratch, words, used, used + 1);
             let Room::Used(now) = placed else {
                 return Room::Full;
             };
@@ -59,14 +59,13 @@ fn place_way(
     }
 }
 
-// Builds the ways of the state in slot `at`, each to its end before the next; at most `left` questions follow one another. The words are room for `meet`.
+// Builds the ways of the state in slot `at`, each to its end before the next. The words are room for `meet`.
 // The three calls stand a line each, so that they can be read against one another.
 #[rattlefmt::skip]
 pub fn place_state(
     ranks: &[u32],
     n: usize,
     slots: usize,
-    left: u32,
     table: &mut [u32],
     scratch: &mut [u32],
     words: &mut [u32],
@@ -75,22 +74,19 @@ pub fn place_state(
 ) -> Room
     requires { ⌜ Ready n slots (now ranks) at used (now table) (now scratch) ⌝ }
     requires { ⌜ filterSlot * n ≤ length (now words) ⌝ }
-    ensures { λ r. ⌜ Placing n slots (now (ranks .entry)) used (now (table .entry)) (now (scratch .entry)) r (now (table .exit)) (now (scratch .exit)) (placeState (slotsIn n (now (ranks .entry))) slots left at (slotAt n (now (scratch .entry)) at) (memoryOf n (now (ranks .entry)) used (now (table .entry)) (now (scratch .entry)))) ⌝ }
+    requires { ⌜ GoodWords n (now ranks) (slotAt n (now scratch) at) ⌝ }
+    ensures { λ r. ⌜ StatePlaced n slots (now (ranks .entry)) at used (now (table .entry)) (now (scratch .entry)) r (now (table .exit)) (now (scratch .exit)) ⌝ }
 {
-    if left == 0 {
-        return Room::Used(used);
-    }
     if !asks(scratch, n, at) {
         return Room::Used(used);
     }
-    let less = left - 1;
-    let holds = place_way(ranks, n, slots, less, table, scratch, words, at, Outcome::Holds, used);
+    let holds = place_way(ranks, n, slots, table, scratch, words, at, Outcome::Holds, used);
     let Room::Used(first) = holds else {
         return Room::Full;
     };
-    let fails = place_way(ranks, n, slots, less, table, scratch, words, at, Outcome::Fails, first);
+    let fails = place_way(ranks, n, slots, table, scratch, words, at, Outcome::Fails, first);
     let Room::Used(second) = fails else {
         return Room::Full;
     };
-    place_way(ranks, n, slots, less, table, scratch, words, at, Outcome::Absent, second)
+    place_way(ranks, n, slots, table, scratch, words, at, Outcome::Absent, second)
 }

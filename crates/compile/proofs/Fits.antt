@@ -1,4 +1,4 @@
--- The records of the states that building answers lie within the table lent.
+-- The records of the states that building a text answers lie within the table lent.
 --   states-fit       the table has room for the records of the states that are answered
 use Prim.Native.Nat.{ℕ, _*_, _≤_}
 use mathlib.Core.Path.{_≡_, refl, sym, ap, _∙_}
@@ -17,6 +17,8 @@ use Rattle.tables.specs.Tables.{recordWords, maxSlots, slotsOf}
 use Rattle.tables.specs.Laws.{slots-least}
 use Rattle.machine.specs.Box.{statesOf}
 use Rattle.builder.specs.Outcome.{Shown, shown, Left, scratchWords, refused, noRoom, placed, accepted, outcomeBy, outcome}
+use Rattle.text.specs.Text as T
+use Rattle.text_builder.specs.Outcome.{textOutcome}
 use Rattle.builder.specs.declared.Built.{Built}
 use Rattle.builder.specs.declared.Built.the-variants as B
 
@@ -38,14 +40,18 @@ states-by (L.Accepted a b) l t s n e =
     omega (arith, ltb-false (slotsOf t) (length (statesOf (filtersOf l))) m, ap (λ (x : Shown). x .number) f)))
     e
 
+text-states : (x t s : List ℕ) (n : ℕ) → Few t n (textOutcome x t s)
+unfolding textOutcome refused outcome
+text-states x t s n =
+    by-cond (Few t n) (T.accepted x) (λ _. states-by (listed (T.wordsOf x)) (T.wordsOf x) t s n) (λ _ e. absurd (omega (arith, built-is _ _ e)))
+
 neither : (a b : Bool) → (a || b) ≡ false → b ≡ false
 neither true true e = e
 neither true false e = refl
 neither false b e = e
 
-pub states-fit : (l t s : List ℕ) (r : Built) (n : ℕ) → shown r ≡ outcome l t s .answer → r ≡ B.States n → recordWords * n ≤ length t
-unfolding outcome
-states-fit l t s r n p e =
-    let few = states-by (listed l) l t s n (sym p ∙ ap shown e) in
+pub states-fit : (x t s : List ℕ) (r : Built) (n : ℕ) → shown r ≡ textOutcome x t s .answer → r ≡ B.States n → recordWords * n ≤ length t
+states-fit x t s r n p e =
+    let few = text-states x t s n (sym p ∙ ap shown e) in
     let within = sym (slots-least t n) ∙ le-ltb (slotsOf t) n few in
     ltb-false (length t) (recordWords * n) (neither (ltb maxSlots n) (ltb (length t) (recordWords * n)) within)

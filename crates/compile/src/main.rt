@@ -5,7 +5,6 @@ ghost use Rattle.tables.specs.Tables.{recordWords};
 use builder::Built;
 use libc::STDIN_FILENO;
 use libc::STDOUT_FILENO;
-use text::Read;
 
 fn print_word(word: u32) {
     io::write_all(STDOUT_FILENO, b" ");
@@ -41,10 +40,10 @@ fn print_refusal(number: u32, filter: u32) {
 }
 
 // Sixteen slots: 9 words of table and 1,024 words of scratch for each.
-fn compile(list: &[u32]) {
+fn compile(text: &[u8]) {
     let mut table = [0u32; 144];
     let mut scratch = [0u32; 16384];
-    match builder::build(list, &mut table, &mut scratch) {
+    match text_builder::build_text(text, &mut table, &mut scratch) {
         Built::States(states) => {
             io::write_all(STDOUT_FILENO, b"states");
             print_words(&[states]);
@@ -54,17 +53,9 @@ fn compile(list: &[u32]) {
     }
 }
 
-fn compile_text(text: &[u8]) {
-    let mut words = [0u32; 8192];
-    match text::read_words(text, &mut words) {
-        Read::Words(count) => compile(&words[..count]),
-        Read::Refused => print_refusal(14, 0),
-    }
-}
-
 // One byte more than a text may have is kept, so that a longer one is seen.
 fn main() {
     let mut text = [0u8; 16385];
     let n = io::read_full(STDIN_FILENO, &mut text);
-    compile_text(&text[..n]);
+    compile(&text[..n]);
 }

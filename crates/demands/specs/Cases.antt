@@ -1,29 +1,98 @@
--- Document 01, "Numbers to try": the cases marked (P), residues and the echo request under an allowance, as one list and one statement.
---   markedCases more   all of them; the last has the allowance 2 + more
---   echo-table         the table that they walk is the one that the echo list has
-use Prim.Native.Nat.{ℕ}
+-- Document 01, "Numbers to try": every case marked (P), in the document's order, as one list and one statement. The two lists in one group, not marked, come last.
+--   sameResidue a b    a and b are the same residue
+--   gives f k t d      the case that the fact k leaves d of the test t, on a field whose greatest number is f
+--   sameShown a b      a and b have the same numbers
+--   echoFrame          an echo request with TTL 1, of 42 bytes: Ethernet, an IP header of 20 bytes, ICMP
+--   answers a w        the case that this frame, walked through the records of the echo list with the allowance a, shows w
+--   markedCases more   the twelve cases, each whether a definition gives what the document says; the last has the allowance 2 + more
+--   allRight cs        every case of a list is right
+use Prim.Native.Nat.{ℕ, zero, suc, _+_}
+use native.Mathlib.Omega.{arith}
 use mathlib.Core.Path.{_≡_, refl}
-use mathlib.Core.Bool.{Bool, true, false, _&&_, false≢true}
-use mathlib.Core.List.{List, [], _∷_, _++_}
-use Rattle.residue.specs.Cases.{residueCases, allRight, residue-cases}
-use Rattle.lists.specs.Filters.{filtersOf}
+use mathlib.Core.Bool.{Bool, true, false, _&&_}
+use mathlib.Core.List.{List, [], _∷_}
+use lib.Dec.{eqb}
+use Rattle.residue.specs.Tests as T
+use Rattle.residue.specs.Residues as D
+use Rattle.residue.specs.Relations as E
+use Rattle.residue.specs.declared.Test.{Test}
+use Rattle.residue.specs.declared.Test.the-variants.{Equal, Differs, AtLeast}
+use Rattle.residue.specs.declared.Fact.{Fact}
+use Rattle.residue.specs.declared.Fact.the-variants.{Known}
+use Rattle.residue.specs.declared.Residue.{Residue}
+use Rattle.residue.specs.declared.Residue.the-variants.{True, False, Left}
+use Rattle.fields.specs.Fields as F
+use Rattle.sets.specs.Sets as S
+use Rattle.lists.specs.Filters as L
+use Rattle.lists.specs.Ranks as R
+use Rattle.states.specs.Paths.{matchSet}
+use Rattle.tables.specs.Tables as B
 use Rattle.machine.specs.Box.{recordsIn}
-use Rattle.machine.specs.Cases.{echo, echo-records}
-use Rattle.matcher.specs.Cases.{echoTable, walkCases, walk-cases}
+use Rattle.machine.specs.Cases.{echoIn, echo, echoTable, echo-records}
+use Rattle.matcher.specs.Walk as W
+
+unfoldable pub sameResidue : Residue → Residue → Bool
+sameResidue True True = true
+sameResidue True False = false
+sameResidue True (Left u) = false
+sameResidue False True = false
+sameResidue False False = true
+sameResidue False (Left u) = false
+sameResidue (Left t) True = false
+sameResidue (Left t) False = false
+sameResidue (Left t) (Left u) = E.sameTest t u
+
+unfoldable pub gives : ℕ → Fact → Test → Residue → Bool
+gives full k t d = sameResidue (D.residueBy full k t) d
+
+unfoldable pub sameShown : W.Shown → W.Shown → Bool
+sameShown a b =
+    eqb (a .ended) (b .ended) && eqb (a .refusal) (b .refusal) && eqb (a .sure) (b .sure) && eqb (a .out) (b .out) && eqb (a .asked) (b .asked)
+
+unfoldable pub echoFrame : List ℕ
+echoFrame =
+    2 ∷ 0 ∷ 0 ∷ 0 ∷ 0 ∷ 2 ∷ 2 ∷ 0 ∷ 0 ∷ 0 ∷ 0 ∷ 1 ∷ 8 ∷ 0 ∷
+    0x45 ∷ 0 ∷ 0 ∷ 28 ∷ 0 ∷ 0 ∷ 0 ∷ 0 ∷ 1 ∷ 1 ∷ 0 ∷ 0 ∷ 10 ∷ 0 ∷ 0 ∷ 1 ∷ 10 ∷ 0 ∷ 0 ∷ 2 ∷
+    8 ∷ 0 ∷ 0 ∷ 0 ∷ 0 ∷ 1 ∷ 0 ∷ 1 ∷ []
+
+unfoldable pub answers : ℕ → W.Shown → Bool
+answers a w = sameShown (W.walk echoFrame 0 (recordsIn (L.filtersOf echo)) 10 a) w
 
 unfoldable pub markedCases : ℕ → List Bool
-markedCases more = residueCases ++ walkCases more
+markedCases more =
+    gives 255 (Known (Differs 3 1)) (Equal 255 5) False
+    ∷ gives 255 (Known (Differs 3 0)) (Equal 255 5) (Left (Equal 255 5))
+    ∷ gives 255 (Known (Equal 0xF0 0x70)) (Equal 255 0x75) (Left (Equal 0x0F 5))
+    ∷ gives 255 (Known (Equal 0xF0 0x70)) (Differs 255 5) True
+    ∷ gives 255 (Known (Equal 0xF0 0x70)) (AtLeast 112) True
+    ∷ gives 255 (Known (Equal 0xF0 0x70)) (AtLeast 113) (Left (AtLeast 113))
+    ∷ gives 255 (Known (Equal 0xF0 0x70)) (AtLeast 128) False
+    ∷ gives 255 (Known (AtLeast 31)) (Equal 0xF0 0x10) (Left (Equal 0xF0 0x10))
+    ∷ gives 255 (Known (AtLeast 32)) (Equal 0xF0 0x10) False
+    ∷ answers 0 (W.stopped 0 0 0)
+    ∷ answers 1 (W.stopped 1 2 1)
+    ∷ answers (2 + more) (W.done 5 2 2)
+    ∷ []
 
-all-right : (a b : List Bool) → allRight a ≡ true → allRight b ≡ true → allRight (a ++ b) ≡ true
-unfolding allRight
-all-right [] b p q = q
-all-right (true ∷ a) b p q = all-right a b p q
-all-right (false ∷ a) b p q = absurd (false≢true p)
+unfoldable pub allRight : List Bool → Bool
+allRight [] = true
+allRight (c ∷ cs) = c && allRight cs
 
 pub marked-cases : (more : ℕ) → allRight (markedCases more) ≡ true
-unfolding markedCases
-marked-cases more = all-right residueCases (walkCases more) residue-cases (walk-cases more)
+unfolding
+    allRight markedCases gives sameResidue E.sameTest E.equalOf E.differsOf E.atMostOf E.atLeastOf
+    D.residueBy D.fromEqual D.fromMasked D.reducedEqual D.reducedDiffers D.fromDiffers D.fromAtMost D.fromAtLeast D.covers D.outside D.settled
+    answers sameShown echoFrame echoTable W.walk W.walkFrom W.arrive W.onward W.damaged W.nextOf W.nextBy B.slotsOf B.wordOf L.testOf T.holds
+    F.field F.readings F.two F.four F.ethernet F.internet F.version F.headerLength F.totalLength F.protocol F.transport F.carries
+marked-cases zero = rw echo-records
+marked-cases (suc more) =
+    let three : 2 + suc more ≡ suc (suc (suc more)) = omega arith in
+    rw (three, echo-records)
 
-pub echo-table : recordsIn (filtersOf echo) ≡ echoTable
-unfolding echoTable
-echo-table = echo-records
+-- In one group with the levels 3, 2, 1 the frame matches filter 0 alone, with 1, 2, 3 filter 2 alone.
+pub one-group : (matchSet (L.filtersOf (echoIn 1 3 1 2 1 1)) (F.field echoFrame 0) ≡ 1) × (matchSet (L.filtersOf (echoIn 1 1 1 2 1 3)) (F.field echoFrame 0) ≡ 4)
+unfolding
+    matchSet echoFrame echoIn L.filtersOf L.filtersFrom L.filterOf L.itemsOf L.itemOf L.testOf
+    R.above R.outranks R.matches R.fires R.allHold T.holdsOf T.holds S.setOf S.tally S.some
+    F.field F.readings F.two F.four F.ethernet F.internet F.version F.headerLength F.totalLength F.protocol F.transport F.carries
+one-group = (refl, refl)

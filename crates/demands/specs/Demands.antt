@@ -8,7 +8,7 @@
 use Prim.Native.Nat.{ℕ, _≤_, _<_}
 use mathlib.Core.Path.{_≡_}
 use mathlib.Core.Logic.{_⊎_}
-use mathlib.Core.Bool.{true, false}
+use mathlib.Core.Bool.{true, false, not, _&&_}
 use mathlib.Core.List.{List}
 use lib.ListN.{length}
 use Rattle.residue.specs.declared.Outcome.{Outcome}
@@ -19,7 +19,7 @@ use Rattle.lists.specs.Ranks.{matches}
 use Rattle.lists.specs.Refusals.{listed}
 use Rattle.lists.specs.Laws.{accepted-well}
 use Rattle.lists.specs.declared.Listed.the-variants.{Accepted}
-use Rattle.states.specs.States.{State, start, ask, questionOf, step}
+use Rattle.states.specs.States.{State, start, ask, questionOf, step, isOpen}
 use Rattle.states.specs.Runs.{run, askedIn, follow}
 use Rattle.states.specs.Laws.{asksAll, path-tests}
 use Rattle.automaton.specs.Machines.{meets}
@@ -31,7 +31,7 @@ use Rattle.matcher.specs.Walk.{Shown, walk}
 use Rattle.builder.specs.Outcome.{Left, scratchWords, outcome}
 use Rattle.demands.specs.Follows.{shownAt}
 use Rattle.demands.specs.Builds.{build-full, build-fits}
-use Rattle.demands.specs.Settled.{Legal, exact, all-done, all-matches, sure-so, out-so, sure-kept, out-kept, none-left, asked-few}
+use Rattle.demands.specs.Settled.{Legal, exact, all-done, all-matches, open-so, sure-so, out-so, sure-kept, out-kept, none-left, asked-few}
 use Rattle.demands.specs.Paths.{once}
 
 module _ (l t s : List ℕ) where
@@ -53,6 +53,10 @@ module _ (l t s : List ℕ) where
     -- Demand 3: whatever the allowance, end, sets and count are those of the state that the residue rules reach by that many questions at most.
     pub demand-3-exact : (a : ℕ) → w a ≡ shownAt fs (run fs (field f p) a (start fs)) (askedIn fs (field f p) a (start fs))
     demand-3-exact = exact l t s built f p legal
+
+    -- A filter of the list is in neither set exactly where it is open in that state.
+    pub demand-3-open : (a i : ℕ) → i < length fs → (not (member i (w a .sure)) && not (member i (w a .out))) ≡ isOpen fs (run fs (field f p) a (start fs)) i
+    demand-3-open = open-so l t s built f p legal
 
     -- A filter that is sure is in the match set, and one that is out is not.
     pub demand-3-sure : (a i : ℕ) → member i (w a .sure) ≡ true → matches fs (field f p) i ≡ true

@@ -4,6 +4,6 @@ pub mod Builds
 pub mod Settled
 pub mod Paths
 pub mod Demands
-pub mod Tight
 pub mod Whole
+pub mod Tight
 pub mod Cases

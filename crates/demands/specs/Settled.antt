@@ -127,7 +127,7 @@ module _ (l t s : List ℕ) (built : outcome l t s .answer .refusal ≡ 0) (f : 
   unfolding placed
   exact a =
       ap (λ (b : Left). walkOver b f p a) (success .left)
-      ∙ walk-placed fs (success .well) t (drop (length (recordsIn fs)) t) f p a (success .fits) (legal .short)
+      ∙ walk-placed fs (success .well) t (drop (length (recordsIn fs)) t) f p a (success .fits) (omega (arith, legal .short))
 
   sure-member : (a i : ℕ) → member i (walked l t s f p a .sure) ≡ (ltb i (length fs) && sure fs (after fs r a) i)
   sure-member a i =
@@ -174,6 +174,11 @@ module _ (l t s : List ℕ) (built : outcome l t s .answer .refusal ≡ 0) (f : 
       go true c x y e = inl (sure-member a i ∙ both _ _ here x)
       go false true x y e = inr (out-member a i ∙ both _ _ here y)
       go false false x y e = absurd (false≢true (sym e ∙ rw here))
+
+  -- In neither set is open.
+  pub open-so : (a i : ℕ) → i < length fs → (not (member i (walked l t s f p a .sure)) && not (member i (walked l t s f p a .out))) ≡ isOpen fs (after fs r a) i
+  unfolding isOpen
+  open-so a i inside = rw (sure-member a i, out-member a i, lt-ltb i (length fs) inside)
 
   pub asked-few : (a : ℕ) → (walked l t s f p a .asked ≤ a) × (walked l t s f p a .asked ≤ testsIn fs)
   asked-few a =

@@ -1,37 +1,42 @@
 -- How tight the promises are (document 01, the section of that name): two outcomes that one promise allows are equal.
-use Prim.Native.Nat.{ℕ}
+use Prim.Native.Nat.{ℕ, zero, suc, _<_}
 use native.Mathlib.Omega.{arith}
-use mathlib.Core.Path.{_≡_, sym, ap, ap₂, _∙_}
+use mathlib.Core.Path.{_≡_, refl, sym, ap, ap₂, _∙_}
 use mathlib.Core.List.{List}
+use Rattle.fields.specs.Header.{Header}
 use Rattle.builder.specs.declared.Built.{Built}
-use Rattle.builder.specs.declared.Built.the-variants as B
 use Rattle.builder.specs.Outcome as O
+use Rattle.builder.specs.Tight.{answered-one}
 use Rattle.matcher.specs.declared.Answer.{Answer}
 use Rattle.matcher.specs.Walk as W
 use Rattle.matcher.specs.Laws as M
+use Rattle.demands.specs.Whole.{Whole, Rooms}
 
-builds : {x y : O.Shown} → x ≡ y → x .built ≡ y .built
-builds e = ap (λ (s : O.Shown). s .built) e
-
-refuses : {x y : O.Shown} → x ≡ y → x .refusal ≡ y .refusal
-refuses e = ap (λ (s : O.Shown). s .refusal) e
-
-numbers : {x y : O.Shown} → x ≡ y → x .number ≡ y .number
-numbers e = ap (λ (s : O.Shown). s .number) e
-
-pub built-injective : (a b : Built) → O.shown a ≡ O.shown b → a ≡ b
-built-injective (B.States n) (B.States m) e = ap B.States (numbers e)
-built-injective (B.Refused r i) (B.Refused q j) e = ap₂ B.Refused (refuses e) (numbers e)
-built-injective (B.States n) (B.Refused q j) e = absurd (omega (arith, builds e))
-built-injective (B.Refused r i) (B.States m) e = absurd (omega (arith, builds e))
+-- An answer that equals a definition: `check`, `rank_sets`, `read_field`, `residue_of` and all whose promise is one equation.
+pub equation-tight : {A : Type 0} (d x y : A) → x ≡ d → y ≡ d → x ≡ y
+equation-tight d x y u v = u ∙ sym v
 
 -- The answer, and each word of the lent memory afterwards.
 pub build-tight :
     (l t s : List ℕ) (a b : Built) (ta tb sa sb : List ℕ) → O.Answered (O.outcome l t s) a ta sa → O.Answered (O.outcome l t s) b tb sb →
     (a ≡ b) × (ta ≡ tb) × (sa ≡ sb)
-build-tight l t s a b ta tb sa sb x y =
-    (built-injective a b (x .answer ∙ sym (y .answer)), x .table ∙ sym (y .table), x .scratch ∙ sym (y .scratch))
+build-tight l t s = answered-one (O.outcome l t s)
+
+-- Reading a header: the set, and each of the lent words.
+pub header-tight : (f : List ℕ) (p : ℕ) (old vs ws : List ℕ) (x y : ℕ) → Header f p old vs x → Header f p old ws y → (x ≡ y) × (vs ≡ ws)
+header-tight f p old vs ws x y u v = (u .set ∙ sym (v .set), u .words ∙ sym (v .words))
 
 -- Classifying writes nothing, and its answer is determined.
 pub classify-tight : (f : List ℕ) (p : ℕ) (t : List ℕ) (m a : ℕ) (x y : Answer) → W.shown x ≡ W.walk f p t m a → W.shown y ≡ W.walk f p t m a → x ≡ y
 classify-tight f p t m a x y u v = M.shown-injective x y (u ∙ sym v)
+
+-- Both as one.
+pub build-and-classify-tight :
+    (l t s f : List ℕ) (p a : ℕ) (x y : Answer) (tx ty sx sy : List ℕ) → Whole l t s f p a x → Rooms (O.outcome l t s) tx sx → Whole l t s f p a y →
+    Rooms (O.outcome l t s) ty sy → (x ≡ y) × (tx ≡ ty) × (sx ≡ sy)
+build-and-classify-tight l t s f p a x y tx ty sx sy wx rx wy ry =
+    (M.shown-injective x y (same (O.outcome l t s .answer .refusal) refl), rx .table ∙ sym (ry .table), rx .scratch ∙ sym (ry .scratch))
+  where
+    same : (n : ℕ) → O.outcome l t s .answer .refusal ≡ n → W.shown x ≡ W.shown y
+    same zero e = wx .walks e ∙ sym (wy .walks e)
+    same (suc n) e = let some : 0 < O.outcome l t s .answer .refusal = omega arith in wx .unbuilt some ∙ sym (wy .unbuilt some)

@@ -1,42 +1,61 @@
 -- Building a list and classifying a frame over what was built, as one: what the answer of both calls together says.
+--   Told l t s f p a x    demands 2 and 3 of the numbers x that a walk shows
 --   Whole l t s f p a x   the answer x is a build's refusal, or a walk of which demands 2 and 3 hold; a frame that is too long is refused by the walk
 --   Rooms b t' s'         the table and the scratch afterwards
 use Prim.Native.Nat.{ℕ, _≤_, _<_, _^_}
 use native.Mathlib.Omega.{arith}
 use mathlib.Core.Path.{_≡_, ap, ap₂, _∙_}
-use mathlib.Core.Bool.{true, false}
+use mathlib.Core.Bool.{true, false, not, _&&_}
+use mathlib.Core.Logic.{_⊎_}
 use mathlib.Core.List.{List}
 use lib.ListN.{length}
 use Rattle.fields.specs.Fields.{field}
 use Rattle.fields.specs.Bounds.{Bytes}
 use Rattle.sets.specs.Sets.{member}
-use Rattle.lists.specs.Filters.{filtersOf, testsIn}
+use Rattle.lists.specs.Filters.{Filter, filtersOf, testsIn}
 use Rattle.lists.specs.Ranks.{matches}
+use Rattle.states.specs.States.{State, start, isOpen}
+use Rattle.states.specs.Runs.{run, askedIn}
 use Rattle.builder.specs.declared.Built.the-variants as B
 use Rattle.builder.specs.Outcome as O
 use Rattle.matcher.specs.declared.Answer.{Answer}
 use Rattle.matcher.specs.declared.Answer.the-variants as A
 use Rattle.matcher.specs.Walk as W
+use Rattle.demands.specs.Follows.{shownAt}
 use Rattle.demands.specs.Builds.{build-success}
-use Rattle.demands.specs.Settled.{Legal, walked, all-done, all-matches, sure-so, out-so}
+use Rattle.demands.specs.Settled.{Legal, walked, exact, all-done, all-matches, open-so, sure-so, out-so, sure-kept, out-kept, none-left, asked-few}
 
 -- The words that building leaves: classifying changes none.
 pub record Rooms (b : O.Left) (t s : List ℕ) : Type 0 where
   pub table : t ≡ b .table
   pub scratch : s ≡ b .scratch
 
-pub record Whole (l t s f : List ℕ) (p a : ℕ) (x : Answer) : Type 0 where
-  pub unbuilt : 0 < O.outcome l t s .answer .refusal → W.shown x ≡ W.refused (O.outcome l t s .answer .refusal)
-  pub walks : O.outcome l t s .answer .refusal ≡ 0 → W.shown x ≡ walked l t s f p a
-  -- Demand 2.
-  pub settled :
-      O.outcome l t s .answer .refusal ≡ 0 → length f ≤ W.maxFrame → testsIn (filtersOf l) ≤ a →
-      (W.shown x .ended ≡ 1) × ((i : ℕ) → member i (W.shown x .sure) ≡ matches (filtersOf l) (field f p) i)
-  -- Demand 3.
-  pub sound-sure :
-      O.outcome l t s .answer .refusal ≡ 0 → length f ≤ W.maxFrame → (i : ℕ) → member i (W.shown x .sure) ≡ true → matches (filtersOf l) (field f p) i ≡ true
-  pub sound-out :
-      O.outcome l t s .answer .refusal ≡ 0 → length f ≤ W.maxFrame → (i : ℕ) → member i (W.shown x .out) ≡ true → matches (filtersOf l) (field f p) i ≡ false
+module _ (l t s f : List ℕ) (p a : ℕ) where
+  abbrev fs : List Filter
+  fs = filtersOf l
+
+  abbrev reached : State
+  reached = run fs (field f p) a (start fs)
+
+  -- Of a list that was built and a frame that is not refused.
+  pub record Told (x : W.Shown) : Type 0 where
+    -- Demand 2.
+    pub settled : testsIn fs ≤ a → (x .ended ≡ 1) × ((i : ℕ) → member i (x .sure) ≡ matches fs (field f p) i)
+    -- Demand 3, in the order of specs/Demands.antt.
+    pub exact : x ≡ shownAt fs reached (askedIn fs (field f p) a (start fs))
+    pub neither : (i : ℕ) → i < length fs → (not (member i (x .sure)) && not (member i (x .out))) ≡ isOpen fs reached i
+    pub sound-sure : (i : ℕ) → member i (x .sure) ≡ true → matches fs (field f p) i ≡ true
+    pub sound-out : (i : ℕ) → member i (x .out) ≡ true → matches fs (field f p) i ≡ false
+    pub stays :
+        (less i : ℕ) → less ≤ a →
+        (member i (walked l t s f p less .sure) ≡ true → member i (x .sure) ≡ true) × (member i (walked l t s f p less .out) ≡ true → member i (x .out) ≡ true)
+    pub none-open : testsIn fs ≤ a → (i : ℕ) → i < length fs → (member i (x .sure) ≡ true) ⊎ (member i (x .out) ≡ true)
+    pub few : (x .asked ≤ a) × (x .asked ≤ testsIn fs)
+
+  pub record Whole (x : Answer) : Type 0 where
+    pub unbuilt : 0 < O.outcome l t s .answer .refusal → W.shown x ≡ W.refused (O.outcome l t s .answer .refusal)
+    pub walks : O.outcome l t s .answer .refusal ≡ 0 → W.shown x ≡ walked l t s f p a
+    pub demands : O.outcome l t s .answer .refusal ≡ 0 → length f ≤ W.maxFrame → Told (W.shown x)
 
 module _ (l t s f : List ℕ) (p a : ℕ) where
   abbrev answer : O.Shown
@@ -54,13 +73,7 @@ module _ (l t s f : List ℕ) (p a : ℕ) where
   whole-refused r i e =
       let same : r ≡ answer .refusal = ap (λ (x : O.Shown). x .refusal) e in
       let some = unbuilt-some r i e in
-      record {
-        unbuilt = λ _. ap W.refused same;
-        walks = λ z. absurd (some z);
-        settled = λ z _ _. absurd (some z);
-        sound-sure = λ z _ _ _. absurd (some z);
-        sound-out = λ z _ _ _. absurd (some z);
-      }
+      record { unbuilt = λ _. ap W.refused same; walks = λ z. absurd (some z); demands = λ z _. absurd (some z) }
 
   -- A walk over what was built; the frame's bytes and the port are bytes.
   module _ (n : ℕ) (t' : List ℕ) (x : Answer) (e : O.shown (B.States n) ≡ answer) (same : t' ≡ O.outcome l t s .table)
@@ -74,12 +87,23 @@ module _ (l t s f : List ℕ) (p a : ℕ) where
     legal : length f ≤ W.maxFrame → Legal f p
     legal short = record { short = short; bytes = bytes; port = port }
 
+    all-told : answer .refusal ≡ 0 → Legal f p → Told l t s f p a (walked l t s f p a)
+    all-told z h =
+        record {
+          settled = λ k. (all-done l t s z f p h a k, all-matches l t s z f p h a k);
+          exact = exact l t s z f p h a;
+          neither = open-so l t s z f p h a;
+          sound-sure = sure-so l t s z f p h a;
+          sound-out = out-so l t s z f p h a;
+          stays = λ less i m. (sure-kept l t s z f p h less a i m, out-kept l t s z f p h less a i m);
+          none-open = none-left l t s z f p h a;
+          few = asked-few l t s z f p h a;
+        }
+
     pub whole-built : Whole l t s f p a x
     whole-built =
         record {
           unbuilt = λ z. absurd (omega (arith, built));
           walks = λ _. follows;
-          settled = λ z h k. rw follows (all-done l t s z f p (legal h) a k, all-matches l t s z f p (legal h) a k);
-          sound-sure = λ z h i. rw follows (sure-so l t s z f p (legal h) a i);
-          sound-out = λ z h i. rw follows (out-so l t s z f p (legal h) a i);
+          demands = λ z h. rw follows (all-told z (legal h));
         }

@@ -1,5 +1,6 @@
 -- The machine of a list of filters (document 01, "States and the table"), and the same machine on the words of slots.
 --   boxOf fs       the states of the list fs, compared, asked and stepped
+--   levelsOf fs    more than the questions on any path
 --   statesOf fs    its states in the order of their numbers: the start is 0, ways are built holds, fails, absent
 --   recordsIn fs   the words of its records
 --   slotsIn n ranks   the machine whose states are the words of a slot of n filters
@@ -25,8 +26,11 @@ boxOf fs =
     }
 
 -- No path is longer than the list's tests.
+abbrev pub levelsOf : List Filter → ℕ
+levelsOf fs = suc (testsIn fs)
+
 unfoldable pub statesOf : List Filter → List State
-statesOf fs = visit (boxOf fs) (suc (testsIn fs)) [] (start fs)
+statesOf fs = visit (boxOf fs) (levelsOf fs) [] (start fs)
 
 unfoldable pub recordsIn : List Filter → List ℕ
 recordsIn fs = recordsOf (boxOf fs) (statesOf fs)

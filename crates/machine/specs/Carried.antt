@@ -1,6 +1,7 @@
 -- On the words of slots the machine of a list does what it does on states.
 --   slots-carried   the words of a good state compare, ask, step and read as the state does
---   slots-placed, list-placed   so the builder, placing words, places the list's states with their records, or is full where they are more than the slots
+--   whole           what placing a list's states in so many slots comes to
+--   list-placed     so the builder, placing words, places the list's states with their records, or is full where they are more than the slots
 use Prim.Native.Nat.{ℕ, _≤_}
 use native.Mathlib.Omega.{arith}
 use mathlib.Core.Path.{_≡_, sym, ap₂, _∙_, subst}
@@ -19,17 +20,20 @@ use Rattle.slots.specs.Words.{written}
 use Rattle.slots.specs.Slots.{startWords}
 use Rattle.slots.specs.Laws.{same-written, asks-written, next-written, question-written, sure-written, out-written, start-accepted}
 use Rattle.automaton.specs.Machines.{recordOf}
-use Rattle.automaton.specs.Placing.{full, room, placeAll}
+use Rattle.automaton.specs.Placing.{Placed, full, room, placeAll}
 use Rattle.automaton.specs.Placed.{memory}
 use Rattle.automaton.specs.Carrying.{Carried, placed-carried}
 use Rattle.machine.specs.Box.{boxOf, statesOf, slotsIn}
 use Rattle.machine.specs.Laws.{Good, good-start, box-lawful, enough}
 
+-- What placing a list's states comes to in so many slots: their words and records, or full.
+abbrev pub whole : (n : ℕ) (ranks : List ℕ) → List Filter → ℕ → Placed (slotsIn n ranks)
+whole n ranks fs slots =
+    cond (leb (length (statesOf fs)) slots) (room (memory (map written (statesOf fs)) (map (recordOf (boxOf fs) (statesOf fs)) (statesOf fs)))) full
+
 -- With k questions at most to follow one another, from the words w on, the builder of n filters places the list's states, or is full.
 abbrev pub PlacesStates : List Filter → ℕ → ℕ → ℕ → List ℕ → Type 0
-PlacesStates fs n slots k w =
-    placeAll (slotsIn n (rankSets fs)) slots k w ≡
-    cond (leb (length (statesOf fs)) slots) (room (memory (map written (statesOf fs)) (map (recordOf (boxOf fs) (statesOf fs)) (statesOf fs)))) full
+PlacesStates fs n slots k w = placeAll (slotsIn n (rankSets fs)) slots k w ≡ whole n (rankSets fs) fs slots
 
 module _ (fs : List Filter) (few : length fs ≤ maxFilters) where
   pub slots-carried : Carried (boxOf fs) (slotsIn (length fs) (rankSets fs)) (Good fs) written
@@ -42,7 +46,7 @@ module _ (fs : List Filter) (few : length fs ≤ maxFilters) where
         sets-carried = λ s g. ap₂ (λ (x y : ℕ). x ∷ y ∷ []) (sure-written fs s (g .each) few (g .fits)) (out-written fs s (g .each) few (g .fits));
       }
 
-  pub slots-placed : wellFilters fs ≡ true → (slots : ℕ) → PlacesStates fs (length fs) slots (testsIn fs) (written (start fs))
+  slots-placed : wellFilters fs ≡ true → (slots : ℕ) → PlacesStates fs (length fs) slots (testsIn fs) (written (start fs))
   unfolding statesOf
   slots-placed h slots = placed-carried (box-lawful fs) slots-carried slots (testsIn fs) (start fs) (good-start fs h) (enough fs h)
 

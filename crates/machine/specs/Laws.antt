@@ -1,17 +1,16 @@
 -- The machine of a well-formed list is lawful, so its states are met each once, and they are exactly those that outcomes reach from the start.
 --   Good fs s   a state of the list fs: a standing for each filter, every remaining test well formed, and it fits a slot
-use Prim.Native.Nat.{suc, _*_, _<_}
+use Prim.Native.Nat.{_*_, _<_}
 use native.Mathlib.Omega.{arith}
 use mathlib.Core.Path.{_≡_, refl, _∙_}
-use mathlib.Core.Bool.{true, false≢true}
+use mathlib.Core.Bool.{true}
 use mathlib.Core.List.{List}
 use lib.ListN.{length, getD}
 use Rattle.residue.specs.declared.Outcome.{Outcome}
 use Rattle.lists.specs.Accepted.{itemWords, wellFilters}
-use Rattle.lists.specs.Filters.{Item, Filter, testsIn}
-use Rattle.states.specs.States.{State, Question, nothing, ask, questionOf, start, step}
-use Rattle.states.specs.Laws.{wellState, well-start, well-step, length-start, length-step, start-remaining, step-falls, step-keeps, step-ask, same-state-eq, same-state-refl}
-use Rattle.states.specs.States.{remaining}
+use Rattle.lists.specs.Filters.{Filter}
+use Rattle.states.specs.States.{State, Question, nothing, ask, questionOf, start, step, remaining}
+use Rattle.states.specs.Laws.{wellState, well-start, well-step, length-start, length-step, start-remaining, next-falls, step-keeps, same-state-eq, same-state-refl}
 use Rattle.automaton.specs.Machines.{meets, placeOf}
 use Rattle.automaton.specs.Lawful.{Lawful, Reached, Distinct}
 use Rattle.automaton.specs.Reaching.{all-each-good, all-good, all-closed, all-start, all-reached, reached-all, all-distinct, all-place-state, all-place-start}
@@ -20,7 +19,7 @@ use Rattle.automaton.specs.Places.{place-below}
 use Rattle.automaton.specs.Records.{records-long}
 use Rattle.states.specs.Measure.{asks}
 use Rattle.slots.specs.Laws.{fitsSlot, fits-start, fits-step, questionWords}
-use Rattle.machine.specs.Box.{boxOf, statesOf, recordsIn}
+use Rattle.machine.specs.Box.{boxOf, levelsOf, statesOf, recordsIn}
 
 pub record Good (fs : List Filter) (s : State) : Type 0 where
   pub well : wellState s ≡ true
@@ -32,14 +31,6 @@ unfolding questionWords itemWords
 question-four nothing = refl
 question-four (ask q) = refl
 
-pub asked-question : (s : State) → asks (questionOf s) ≡ true → (q : Item) × (questionOf s ≡ ask q)
-unfolding asks
-asked-question s e = go (questionOf s) refl e
-  where
-    go : (a : Question) → questionOf s ≡ a → asks a ≡ true → (q : Item) × (questionOf s ≡ ask q)
-    go nothing r e = absurd (false≢true e)
-    go (ask q) r e = (q, r)
-
 module _ (fs : List Filter) where
   pub good-step : (o : Outcome) (s : State) → Good fs s → Good fs (step fs o s)
   good-step o s g =
@@ -50,64 +41,59 @@ module _ (fs : List Filter) where
   pub good-start : wellFilters fs ≡ true → Good fs (start fs)
   good-start h = record { well = well-start fs h; each = length-start fs; fits = fits-start fs h }
 
-  box-falls : (o : Outcome) (s : State) → Good fs s → asks (questionOf s) ≡ true → remaining (step fs o s) < remaining s
-  box-falls o s g e =
-      let a = asked-question s e in
-      rw (step-ask fs o (a .0) s (a .1)) (step-falls fs o (a .0) s (g .well) (a .1))
-
   pub box-lawful : Lawful (boxOf fs) (Good fs) remaining
   box-lawful =
       record {
         same-eq = λ a b g e. same-state-eq a b e;
         same-refl = λ a g. same-state-refl a;
         good-step = λ o s g e. good-step o s g;
-        falls = λ o s g e. box-falls o s g e;
+        falls = λ o s g e. next-falls fs o s (g .well) e;
         question-long = λ s g. question-four (questionOf s);
         sets-long = λ s g. refl;
       }
 
 -- All states of a well-formed list.
 module _ (fs : List Filter) (h : wellFilters fs ≡ true) where
-  pub enough : remaining (start fs) < suc (testsIn fs)
+  pub enough : remaining (start fs) < levelsOf fs
   enough = omega (arith, start-remaining fs)
 
   pub start-first : placeOf (boxOf fs) (statesOf fs) (start fs) ≡ 0
   unfolding statesOf
-  start-first = all-place-start (box-lawful fs) (suc (testsIn fs)) (start fs) (good-start fs h) enough
+  start-first = all-place-start (box-lawful fs) (levelsOf fs) (start fs) (good-start fs h) enough
 
   pub start-met : meets (boxOf fs) (statesOf fs) (start fs) ≡ true
   unfolding statesOf
-  start-met = all-start (box-lawful fs) (suc (testsIn fs)) (start fs) (good-start fs h) enough
+  start-met = all-start (box-lawful fs) (levelsOf fs) (start fs) (good-start fs h) enough
 
   pub states-good : Each (Good fs) (statesOf fs)
   unfolding statesOf
-  states-good = all-each-good (box-lawful fs) (suc (testsIn fs)) (start fs) (good-start fs h) enough
+  states-good = all-each-good (box-lawful fs) (levelsOf fs) (start fs) (good-start fs h) enough
 
   pub state-good : (s : State) → meets (boxOf fs) (statesOf fs) s ≡ true → Good fs s
   unfolding statesOf
-  state-good = all-good (box-lawful fs) (suc (testsIn fs)) (start fs) (good-start fs h) enough
+  state-good = all-good (box-lawful fs) (levelsOf fs) (start fs) (good-start fs h) enough
 
   pub states-closed : (o : Outcome) (s : State) → meets (boxOf fs) (statesOf fs) s ≡ true → asks (questionOf s) ≡ true → meets (boxOf fs) (statesOf fs) (step fs o s) ≡ true
   unfolding statesOf
-  states-closed = all-closed (box-lawful fs) (suc (testsIn fs)) (start fs) (good-start fs h) enough
+  states-closed = all-closed (box-lawful fs) (levelsOf fs) (start fs) (good-start fs h) enough
 
   pub states-place : (s d : State) → meets (boxOf fs) (statesOf fs) s ≡ true → getD (statesOf fs) (placeOf (boxOf fs) (statesOf fs) s) d ≡ s
   unfolding statesOf
-  states-place = all-place-state (box-lawful fs) (suc (testsIn fs)) (start fs) (good-start fs h) enough
+  states-place = all-place-state (box-lawful fs) (levelsOf fs) (start fs) (good-start fs h) enough
 
   -- No state stands twice among them.
   pub states-distinct : Distinct (boxOf fs) (statesOf fs)
   unfolding statesOf
-  states-distinct = all-distinct (box-lawful fs) (suc (testsIn fs)) (start fs) (good-start fs h) enough
+  states-distinct = all-distinct (box-lawful fs) (levelsOf fs) (start fs) (good-start fs h) enough
 
   -- A state is one of them exactly where outcomes reach it from the start.
   pub states-reached : (s : State) → meets (boxOf fs) (statesOf fs) s ≡ true → Reached (boxOf fs) (start fs) s
   unfolding statesOf
-  states-reached = all-reached (box-lawful fs) (suc (testsIn fs)) (start fs) (good-start fs h) enough
+  states-reached = all-reached (box-lawful fs) (levelsOf fs) (start fs) (good-start fs h) enough
 
   pub reached-states : (s : State) → Reached (boxOf fs) (start fs) s → meets (boxOf fs) (statesOf fs) s ≡ true
   unfolding statesOf
-  reached-states s r = reached-all (box-lawful fs) (suc (testsIn fs)) (start fs) (good-start fs h) enough r
+  reached-states s r = reached-all (box-lawful fs) (levelsOf fs) (start fs) (good-start fs h) enough r
 
   -- There is at least the start, and a record of nine words for each state.
   pub states-some : 0 < length (statesOf fs)

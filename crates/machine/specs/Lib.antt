@@ -1,4 +1,5 @@
 pub mod Box
 pub mod Laws
 pub mod Carried
+pub mod Remaining
 pub mod Cases

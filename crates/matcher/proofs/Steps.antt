@@ -1,16 +1,17 @@
 -- One turn of the walk: what each way out of a record says of the walk from record 0.
 --   window t n             the nine words that are lent from word 9 n on
 --   read t n j             word j of record n, as a walk reads it: out of those nine words
---   Walking t m r a k n    record n was reached with k questions asked, and the walk from there answers the whole walk
---   Asking t m r a k n     besides, record n is a question that may be asked
+--   Walking t m r a l n    record n was reached with l questions left of a, and the walk from there answers the whole walk
+--   Asking t m r a l n     besides, record n is a question that may be asked, and leaves one question fewer
 use Prim.Native.Nat.{ℕ, zero, suc, _+_, _-_, _*_, _≤_, _<_}
+use native.Mathlib.Nat.{pos-of-ne-zero}
 use native.Mathlib.Omega.{arith}
-use mathlib.Core.Path.{_≡_, refl, sym, ap, _∙_}
+use mathlib.Core.Path.{_≡_, refl, sym, _∙_}
 use mathlib.Core.Bool.{Bool, true, false, cond, not, _&&_, _||_, or-true, or-false, false≢true}
 use mathlib.Core.List.{List}
-use borrow.Author.Tests.{lt-ltb, le-ltb, ltb-false, leb-true, leb-false}
-use lib.Dec.{ltb, leb, eqb}
-use lib.ListN.{getD, take, drop}
+use borrow.Author.Tests.{lt-ltb, le-ltb, ltb-false, eqb-true, eqb-false}
+use lib.Dec.{ltb, eqb}
+use lib.ListN.{take, drop}
 use lib.Seq.{getD-take, getD-drop}
 use Rattle.residue.specs.Tests.{holds}
 use Rattle.residue.specs.declared.Reading.{Reading}
@@ -33,10 +34,10 @@ read-word t n j h =
     getD-take (recordWords * n + recordWords - recordWords * n) (drop (recordWords * n) t) j 0 (omega arith) ∙
     getD-drop (recordWords * n) t j 0
 
-pub record Walking (t : List ℕ) (m : ℕ) (r : ℕ → Reading) (a k n : ℕ) : Type 0 where
+pub record Walking (t : List ℕ) (m : ℕ) (r : ℕ → Reading) (a l n : ℕ) : Type 0 where
   pub inside : n < m
-  pub within : k ≤ a
-  pub rest : walkFrom t m r (a - k) k n ≡ walkFrom t m r a 0 0
+  pub within : l ≤ a
+  pub rest : walkFrom t m r l (a - l) n ≡ walkFrom t m r a 0 0
 
 -- The tests of a record's words, put together: z final, h a kind above 4, g a field above the last, l the allowance used.
 covered : (z h g : Bool) → (z || h || g) ≡ true → (h || (not z && g) || z) ≡ true
@@ -82,74 +83,79 @@ module _ (t : List ℕ) (m : ℕ) (r : ℕ → Reading) (k n : ℕ) where
   at-rest zero e = refl
   at-rest (suc b) e = settles (damaged t n) (eqb (wordOf t n kindAt) 0) e _ _ _
 
-  pub at-question :
-      (b : ℕ) →
-      damaged t n ≡ false →
-      eqb (wordOf t n kindAt) 0 ≡ false →
-      walkFrom t m r (suc b) k n ≡ onward (ltb (nextOf t r n) m) (walkFrom t m r b (k + 1) (nextOf t r n))
-  unfolding walkFrom arrive
-  at-question b e f = rw (e, f)
+-- One question more is asked, one fewer is left.
+pub at-question :
+    (t : List ℕ) (m : ℕ) (r : ℕ → Reading) (n a l : ℕ) →
+    l < a →
+    damaged t n ≡ false →
+    eqb (wordOf t n kindAt) 0 ≡ false →
+    walkFrom t m r (suc l) (a - suc l) n ≡ onward (ltb (nextOf t r n) m) (walkFrom t m r l (a - l) (nextOf t r n))
+unfolding walkFrom arrive
+at-question t m r n a l h e f =
+    let asked : a - suc l + 1 ≡ a - l = omega arith in
+    rw (e, f, asked)
 
 -- The code's test of a record, in the table's words.
 ends-words :
-    (t : List ℕ) (n k a : ℕ) →
-    endsAt (window t n) k a ≡
-    (eqb (wordOf t n kindAt) 0 || ltb 4 (wordOf t n kindAt) || ltb 13 (wordOf t n fieldAt) || leb a k)
+    (t : List ℕ) (n l : ℕ) →
+    endsAt (window t n) l ≡
+    (eqb (wordOf t n kindAt) 0 || ltb 4 (wordOf t n kindAt) || ltb 13 (wordOf t n fieldAt) || eqb l 0)
 unfolding endsAt
-ends-words t n k a = rw (read-word t n 0 (omega arith), read-word t n 1 (omega arith))
+ends-words t n l = rw (read-word t n 0 (omega arith), read-word t n 1 (omega arith))
 
-module _ {t : List ℕ} {m : ℕ} {r : ℕ → Reading} {a k n : ℕ} (w : Walking t m r a k n) where
+module _ {t : List ℕ} {m : ℕ} {r : ℕ → Reading} {a l n : ℕ} (w : Walking t m r a l n) where
   ended-by :
-      (l : Bool) →
-      leb a k ≡ l →
-      (eqb (wordOf t n kindAt) 0 || ltb 4 (wordOf t n kindAt) || ltb 13 (wordOf t n fieldAt) || l) ≡ true →
-      walkFrom t m r 0 k n ≡ walkFrom t m r (a - k) k n
+      (used : Bool) →
+      eqb l 0 ≡ used →
+      (eqb (wordOf t n kindAt) 0 || ltb 4 (wordOf t n kindAt) || ltb 13 (wordOf t n fieldAt) || used) ≡ true →
+      walkFrom t m r 0 (a - l) n ≡ walkFrom t m r l (a - l) n
   unfolding damaged
-  ended-by true h e =
-      let used : a - k ≡ 0 = omega (arith, leb-true a k h) in
-      rw used
+  ended-by true h e = rw (eqb-true l 0 h)
   ended-by false h e =
-      at-rest t m r k n (a - k)
+      at-rest t m r (a - l) n l
       (covered (eqb (wordOf t n kindAt) 0) (ltb 4 (wordOf t n kindAt)) (ltb 13 (wordOf t n fieldAt))
       (sym (or-false _) ∙ e))
 
   -- The walk that goes no further shows what the record shows.
-  pub ended : endsAt (window t n) k a ≡ true → endAt (window t n) k ≡ walkFrom t m r a 0 0
-  ended e = at-end t m r k n ∙ ended-by (leb a k) refl (sym (ends-words t n k a) ∙ e) ∙ w .rest
+  pub ended : endsAt (window t n) l ≡ true → endAt (window t n) (a - l) ≡ walkFrom t m r a 0 0
+  ended e = at-end t m r (a - l) n ∙ ended-by (eqb l 0) refl (sym (ends-words t n l) ∙ e) ∙ w .rest
 
-pub record Asking (t : List ℕ) (m : ℕ) (r : ℕ → Reading) (a k n : ℕ) : Type 0 where
-  pub left : k < a
+pub record Asking (t : List ℕ) (m : ℕ) (r : ℕ → Reading) (a l n : ℕ) : Type 0 where
+  pub some : 0 < l
+  pub within : l ≤ a
   pub known : read t n fieldAt < fieldCount
   pub rest :
-      onward (ltb (nextOf t r n) m) (walkFrom t m r (a - (k + 1)) (k + 1) (nextOf t r n)) ≡
+      onward (ltb (nextOf t r n) m) (walkFrom t m r (l - 1) (a - (l - 1)) (nextOf t r n)) ≡
       walkFrom t m r a 0 0
 
-module _ {t : List ℕ} {m : ℕ} {r : ℕ → Reading} {a k n : ℕ} where
-  pub asking : Walking t m r a k n → endsAt (window t n) k a ≡ false → Asking t m r a k n
+module _ {t : List ℕ} {m : ℕ} {r : ℕ → Reading} {a l n : ℕ} where
+  pub asking : Walking t m r a l n → endsAt (window t n) l ≡ false → Asking t m r a l n
   unfolding damaged
   asking w e =
       let free =
-      clear (eqb (wordOf t n kindAt) 0) (ltb 4 (wordOf t n kindAt)) (ltb 13 (wordOf t n fieldAt)) (leb a k)
-      (sym (ends-words t n k a) ∙ e) in
-      let below : k < a = leb-false a k (free .3) in
-      let more : a - k ≡ suc (a - (k + 1)) = omega arith in
-      let whole : walkFrom t m r (suc (a - (k + 1))) k n ≡ walkFrom t m r a 0 0 = rw more at (w .rest) in
+      clear (eqb (wordOf t n kindAt) 0) (ltb 4 (wordOf t n kindAt)) (ltb 13 (wordOf t n fieldAt)) (eqb l 0)
+      (sym (ends-words t n l) ∙ e) in
+      let left : 0 < l = pos-of-ne-zero (eqb-false l 0 (free .3)) in
+      let fewer : l - 1 < a = omega (arith, w .within) in
+      let more : l ≡ suc (l - 1) = omega arith in
+      let whole : walkFrom t m r (suc (l - 1)) (a - suc (l - 1)) n ≡ walkFrom t m r a 0 0 = rw more at (w .rest) in
       let low : wordOf t n fieldAt ≤ 13 = ltb-false 13 (wordOf t n fieldAt) (free .2) in
       record {
-        left = below;
+        some = left;
+        within = w .within;
         known = omega (arith, read-word t n fieldAt (omega arith));
-        rest = sym (at-question t m r k n (a - (k + 1)) (free .1) (free .0)) ∙ whole;
+        rest = sym (at-question t m r n a (l - 1) fewer (free .1) (free .0)) ∙ whole;
       }
 
   -- The way leads to no record, or to the next.
-  pub lost : Asking t m r a k n → (next : ℕ) → nextOf t r n ≡ next → m ≤ next → refused 13 ≡ walkFrom t m r a 0 0
+  pub lost : Asking t m r a l n → (next : ℕ) → nextOf t r n ≡ next → m ≤ next → refused 13 ≡ walkFrom t m r a 0 0
   unfolding onward
   lost q next e h = rw (e, le-ltb next m h) at (q .rest)
 
-  pub moved : Asking t m r a k n → (next : ℕ) → nextOf t r n ≡ next → next < m → Walking t m r a (k + 1) next
+  pub moved : Asking t m r a l n → (next : ℕ) → nextOf t r n ≡ next → next < m → Walking t m r a (l - 1) next
   unfolding onward
   moved q next e h =
-      record { inside = h; within = omega (arith, q .left); rest = rw (e, lt-ltb next m h) at (q .rest) }
+      record { inside = h; within = omega (arith, q .within); rest = rw (e, lt-ltb next m h) at (q .rest) }
 
 -- The way that the code takes is the way of the definition.
 module _ (t : List ℕ) (r : ℕ → Reading) (n : ℕ) where

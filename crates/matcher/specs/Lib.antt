@@ -2,4 +2,3 @@ pub mod Walk
 pub mod Records
 pub mod Chains
 pub mod Laws
-pub mod Cases

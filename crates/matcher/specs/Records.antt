@@ -1,6 +1,6 @@
 -- What the nine words of one record say, apart from the table.
---   endsAt w k a   the walk goes no further at such a record, with k questions asked of a: it is final, damaged, or the allowance is used
---   endAt w k      what the walk then shows
+--   endsAt w l   the walk goes no further at such a record, with l questions left: it is final, damaged, or the allowance is used
+--   endAt w k    what the walk then shows, with k questions asked
 use Prim.Native.Nat.{ℕ}
 use mathlib.Core.Bool.{Bool, not, _&&_, _||_}
 use mathlib.Core.List.{List}
@@ -13,8 +13,8 @@ use Rattle.matcher.specs.Walk.{Shown, done, stopped, arrive}
 abbrev pub wordIn : List ℕ → ℕ → ℕ
 wordIn w j = getD w j 0
 
-unfoldable pub endsAt : List ℕ → ℕ → ℕ → Bool
-endsAt w k a = eqb (wordIn w kindAt) 0 || ltb 4 (wordIn w kindAt) || ltb 13 (wordIn w fieldAt) || leb a k
+unfoldable pub endsAt : List ℕ → ℕ → Bool
+endsAt w l = eqb (wordIn w kindAt) 0 || ltb 4 (wordIn w kindAt) || ltb 13 (wordIn w fieldAt) || eqb l 0
 
 unfoldable pub endAt : List ℕ → ℕ → Shown
 endAt w k =

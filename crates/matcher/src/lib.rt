@@ -1,6 +1,6 @@
 // A frame is walked through a table (document 01, "Refusal numbers", the paragraph on classifying).
 ghost use mathlib.Core.Path.{_≡_};
-ghost use Prim.Native.Nat.{_*_, _<_, _≤_};
+ghost use Prim.Native.Nat.{_+_, _-_, _*_, _<_, _≤_};
 ghost use lib.ListN.{length};
 ghost use Rattle.residue.specs.Tests.{holds};
 ghost use Rattle.fields.specs.Header.{readingAt};
@@ -19,6 +19,12 @@ pub enum Answer {
     Refused(u32),
 }
 
+// Where a walk stands: at record s, with so many questions left of its allowance.
+struct Place {
+    s: u32,
+    left: u32,
+}
+
 // The test that a record's words mean, at a number. A record that was checked has no kind but 1 to 4.
 fn holds_word(kind: u32, mask: u32, value: u32, x: u32) -> bool
     ensures { λ r. ⌜ r ≡ holds (testOf kind mask value) x ⌝ }
@@ -32,9 +38,9 @@ fn holds_word(kind: u32, mask: u32, value: u32, x: u32) -> bool
 }
 
 // Whether the walk goes no further than a record. Returns in a row, no sum of tests: each is a branch that is seldom taken.
-fn ends(words: &[u32], asked: u32, allowance: u32) -> bool
+fn ends(words: &[u32], left: u32) -> bool
     requires { ⌜ recordWords ≤ length (now words) ⌝ }
-    ensures { λ r. ⌜ r ≡ endsAt (now (words .entry)) asked allowance ⌝ }
+    ensures { λ r. ⌜ r ≡ endsAt (now (words .entry)) left ⌝ }
 {
     let kind = words[0];
     if kind == 0 {
@@ -46,7 +52,7 @@ fn ends(words: &[u32], asked: u32, allowance: u32) -> bool
     if 13 < words[1] {
         return true;
     }
-    allowance <= asked
+    left == 0
 }
 
 // The answer at such a record. Damage comes before the allowance; the field of a final record is not looked at.
@@ -54,19 +60,21 @@ fn end(words: &[u32], asked: u32) -> Answer
     requires { ⌜ recordWords ≤ length (now words) ⌝ }
     ensures { λ r. ⌜ shown r ≡ endAt (now (words .entry)) asked ⌝ }
 {
+    let sure = words[7];
+    let out = words[8];
     if words[0] == 0 {
-        return Answer::Done(words[7], words[8], asked);
+        return Answer::Done(sure, out, asked);
     }
     if (4 < words[0]) | (13 < words[1]) {
         return Answer::Refused(13);
     }
-    Answer::Stopped(words[7], words[8], asked)
+    Answer::Stopped(sure, out, asked)
 }
 
 // Whether a record asks the field by an equality that misses x and leads to record next.
-fn links(words: &[u32], field: u32, x: u32, next: u32, states: u32) -> bool
+fn links(words: &[u32], field: u32, x: u32, next: u32) -> bool
     requires { ⌜ recordWords ≤ length (now words) ⌝ }
-    ensures { λ r. ⌜ r ≡ linksAt (now (words .entry)) field x next states ⌝ }
+    ensures { λ r. ⌜ r ≡ linksAt (now (words .entry)) field x next ⌝ }
 {
     if words[0] != 1 {
         return false;
@@ -77,36 +85,48 @@ fn links(words: &[u32], field: u32, x: u32, next: u32, states: u32) -> bool
     if x & words[2] == words[3] {
         return false;
     }
-    if words[5] != next {
-        return false;
-    }
-    next < states
+    words[5] == next
 }
 
-// How many records from s on, each two further than the one before, are such links. A table that asks one field for many values
-// is a chain of them; a counter goes on without waiting for the next number of each.
-fn chain(table: &[u32], s: u32, field: u32, x: u32, states: u32, left: u32) -> u32
-    requires { ⌜ s < states ⌝ ∗ ⌜ states ≤ maxSlots ⌝ ∗ ⌜ recordWords * states ≤ length (now table) ⌝ ∗ ⌜ field < fieldCount ⌝ }
-    ensures { λ p. ⌜ Chained (now (table .entry)) states field x left s p ⌝ }
+// What a chain from record s on leaves of the questions at the least: each link takes one and leads two further, none beyond the states.
+fn least_left(s: u32, left: u32, states: u32) -> u32
+    requires { ⌜ s < states ⌝ }
+    ensures { λ r. ⌜ s + 2 * (left - r) < states ⌝ }
 {
-    let mut p: u32 = 0;
-    while p < left {
-        let n = s + 2 * p;
-        let b = 9 * n as usize;
-        if !links(&table[b..b + 9], field, x, n + 2, states) {
-            return p;
+    let most = (states - 1 - s) / 2;
+    if most < left { left - most } else { 0 }
+}
+
+// Passes such links from a place on, each two further than the one before, with a question each. A table that asks one field for
+// many values is a chain of them; adding two goes on without waiting for the next number of each.
+fn chain(table: &[u32], from: Place, field: u32, x: u32, states: u32) -> Place
+    requires { ⌜ from .s < states ⌝ ∗ ⌜ states ≤ maxSlots ⌝ ∗ ⌜ recordWords * states ≤ length (now table) ⌝ ∗ ⌜ field < fieldCount ⌝ }
+    ensures { λ p. ⌜ Chained (now (table .entry)) states field x (from .left) (from .s) (p .left) (p .s) ⌝ }
+{
+    let mut s = from.s;
+    let mut left = from.left;
+    let stop = least_left(s, left, states);
+    while stop < left {
+        let b = 9 * s as usize;
+        if !links(&table[b..b + 9], field, x, s + 2) {
+            return Place { s, left };
         }
-        p += 1;
+        s += 2;
+        left -= 1;
     }
-    p
+    Place { s, left }
 }
 
-// How many links to look for behind record s, which led to next: none unless it was one itself, as in most tables.
-fn room(s: u32, next: u32, left: u32) -> u32
-    requires { ⌜ s < maxSlots ⌝ }
-    ensures { λ r. ⌜ r ≤ left ⌝ }
+// The place behind record s, which failed to next. A chain is looked for only where that is two further on: in most tables it seldom is.
+fn follow(table: &[u32], s: u32, next: u32, field: u32, x: u32, states: u32, left: u32) -> Place
+    requires { ⌜ s < states ⌝ ∗ ⌜ next < states ⌝ ∗ ⌜ states ≤ maxSlots ⌝ ∗ ⌜ recordWords * states ≤ length (now table) ⌝ ∗ ⌜ field < fieldCount ⌝ }
+    ensures { λ p. ⌜ Chained (now (table .entry)) states field x left next (p .left) (p .s) ⌝ }
 {
-    if next == s + 2 { left } else { 0 }
+    let place = Place { s: next, left };
+    if next == s + 2 {
+        return chain(table, place, field, x, states);
+    }
+    place
 }
 
 // The walk from record 0 on, over a header that was read. Each way has its own load and its own test:
@@ -115,39 +135,36 @@ fn walk_from(present: u32, values: &[u32; 14], table: &[u32], states: u32, allow
     requires { ⌜ 0 < states ⌝ ∗ ⌜ states ≤ maxSlots ⌝ ∗ ⌜ recordWords * states ≤ length (now table) ⌝ }
     ensures { λ r. ⌜ shown r ≡ walkFrom (now (table .entry)) states (readingAt present (now (values .entry))) allowance 0 0 ⌝ }
 {
-    let mut s: u32 = 0;
-    let mut asked: u32 = 0;
+    let mut at = Place {
+        s: 0,
+        left: allowance,
+    };
     loop {
-        let b = 9 * s as usize;
+        let b = 9 * at.s as usize;
         let words = &table[b..b + 9];
-        if ends(words, asked, allowance) {
-            return end(words, asked);
+        if ends(words, at.left) {
+            return end(words, allowance - at.left);
         }
+        at.left -= 1;
         let Reading::Value(x) = fields::reading_at(present, values, words[1]) else {
-            s = words[6];
-            if states <= s {
+            at.s = words[6];
+            if states <= at.s {
                 return Answer::Refused(13);
             }
-            asked += 1;
             continue;
         };
         if holds_word(words[0], words[2], words[3], x) {
-            s = words[4];
-            if states <= s {
+            at.s = words[4];
+            if states <= at.s {
                 return Answer::Refused(13);
             }
-            asked += 1;
             continue;
         }
         let next = words[5];
         if states <= next {
             return Answer::Refused(13);
         }
-        asked += 1;
-        let most = room(s, next, allowance - asked);
-        let passed = chain(table, next, words[1], x, states, most);
-        s = next + 2 * passed;
-        asked += passed;
+        at = follow(table, at.s, next, words[1], x, states, at.left);
     }
 }
 

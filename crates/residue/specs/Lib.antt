@@ -10,4 +10,3 @@ pub mod Questions
 pub mod Narrowing
 pub mod Spent
 pub mod Laws
-pub mod Cases

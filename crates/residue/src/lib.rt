@@ -2,8 +2,8 @@
 ghost use mathlib.Core.Path.{_≡_};
 ghost use mathlib.Core.Bool.{cond};
 ghost use Prim.Native.Nat.{_+_, _-_};
-ghost use Rattle.residue.specs.Tests.{holds, holdsOf};
-ghost use Rattle.residue.specs.Facts.{factOf, failsFact, outcomeOf};
+ghost use Rattle.residue.specs.Tests.{holds};
+ghost use Rattle.residue.specs.Facts.{factOf, failsFact};
 ghost use Rattle.residue.specs.Residues.{outside, covers, reducedEqual, reducedDiffers, fromMasked, fromEqual, fromDiffers, fromAtMost, fromAtLeast, residueBy};
 
 // A test on a field: equal under a mask, differs under a mask (mask, value), at most, at least.
@@ -50,33 +50,6 @@ pub fn test_holds(t: Test, x: u32) -> bool
         Test::AtMost(c) => x <= c,
         Test::AtLeast(c) => c <= x,
     }
-}
-
-// An absent field answers before the test is looked at.
-pub fn holds_of(t: Test, r: Reading) -> bool
-    ensures { λ b. ⌜ b ≡ holdsOf t r ⌝ }
-{
-    let Reading::Value(x) = r else {
-        return false;
-    };
-    test_holds(t, x)
-}
-
-// One of two outcomes, without a join in the caller.
-fn outcome_by(b: bool, yes: Outcome, no: Outcome) -> Outcome
-    ensures { λ r. ⌜ r ≡ cond b yes no ⌝ }
-{
-    if b { yes } else { no }
-}
-
-// What the question t comes to at a reading.
-pub fn outcome_of(t: Test, r: Reading) -> Outcome
-    ensures { λ o. ⌜ o ≡ outcomeOf t r ⌝ }
-{
-    let Reading::Value(x) = r else {
-        return Outcome::Absent;
-    };
-    outcome_by(test_holds(t, x), Outcome::Holds, Outcome::Fails)
 }
 
 // At most c fails: at least c + 1, which is not formed where c is full, so the sum stays within a word.

@@ -1,14 +1,7 @@
 // Sets of small numbers, as the bits of a word.
 ghost use mathlib.Core.Path.{_≡_};
 ghost use Prim.Native.Nat.{_+_, _*_, _^_, _<_};
-ghost use Rattle.sets.specs.Sets.{bit, member};
-
-// Whether the set holds i. A number that no bit stands for is in no set.
-pub fn has(set: u32, i: u32) -> bool
-    ensures { λ r. ⌜ r ≡ member i set ⌝ }
-{
-    if i < 32 { (set >> i) & 1 == 1 } else { false }
-}
+ghost use Rattle.sets.specs.Sets.{bit};
 
 // The set with i in it where b says so. A set is made upwards, so nothing from i on is in it yet.
 pub fn put(set: u32, i: u32, b: bool) -> u32

@@ -11,5 +11,4 @@ pub mod Stays
 pub mod Paths
 pub mod Same
 pub mod Asked
-pub mod Cases
 pub mod Laws

@@ -12,7 +12,7 @@ use lib.Dec.{leb, ltb}
 use lib.ListN.{length, take, drop, set, getD, length-take, length-set, take-append-drop, drop-of-length-le}
 use lib.Seq.{drop-cons, take-suc-set, drop-set-lt, drop-drop, length-take-le, append-snoc}
 use borrow.Author.Tests.{le-ltb, lt-ltb}
-use Rattle.text.specs.Text.{maxText, maxItems, maxWord, separates, isDigit, items, numbers, allNumbers, tooLong, accepted, wordsOf, readOf, Reads}
+use Rattle.text.specs.Text.{maxText, maxItems, maxWord, separates, isDigit, items, numbers, allNumbers, tooLong, accepted, wordsOf, counted, shown, readOf, Reads}
 use Rattle.text.specs.Steps.{valueAt, ended, more, step}
 use Rattle.text.specs.declared.Place.{Place}
 use Rattle.text.specs.declared.Place.the-variants.{Between, Inside}
@@ -39,19 +39,20 @@ pub record Reading (t before words : List ℕ) (count : ℕ) (place : Place) (i 
   pub rest : scan Between t ≡ put (take count words) (scan place (drop i t))
 
 -- Where all bytes are read, or one is wrong, what was stored is the answer.
-module _ (t before words : List ℕ) (count : ℕ) (right : Bool) where
+module _ (t before words : List ℕ) (count : ℕ) (right : Bool) (r : Read) where
   comes-to :
+      shown r ≡ cond right (counted count) (shown Refused) →
       length t ≤ maxText → count ≤ length words → drop count words ≡ drop count before →
       scan Between t ≡ record { words = take count words; right = right } →
-      Reads t before words (cond right (Words count) Refused)
+      Reads t before words r
   unfolding tooLong accepted wordsOf readOf
-  comes-to s l k e =
+  comes-to n s l k e =
       let j = sym (scan-text t) ∙ e in
       let all = ap (λ (x : Scan). x .right) j in
       let these = ap (λ (x : Scan). x .words) j in
       let size = length-take-le count words l in
       record {
-        answer = rw (le-ltb _ _ s, all, these, size);
+        answer = rw (le-ltb _ _ s, all, these, size) n;
         words = rw (le-ltb _ _ s, these, size, ← k, take-append-drop count words);
       }
 
@@ -126,7 +127,7 @@ module _ (t before words : List ℕ) (count : ℕ) (place : Place) (i : ℕ) (r 
 
   pub refused : i < length t → step place (getD t i 0) ≡ Wrong → Reads t before words Refused
   refused h e =
-      comes-to t before words count false (r .short) (omega arith) (r .kept)
+      comes-to t before words count false Refused refl (r .short) (omega arith) (r .kept)
       (rw (r .rest, scan-next h, e, append-nil (take count words)))
 
   -- There is room for the word: it took a byte, and so did what stands apart from the next.
@@ -151,7 +152,7 @@ module _ (t before words : List ℕ) (count : ℕ) (place : Place) (i : ℕ) (r 
   pub ended-apart : length t ≤ i → place ≡ Between → Reads t before words (Words count)
   unfolding scan
   ended-apart h e =
-      comes-to t before words count true (r .short) (omega arith) (r .kept)
+      comes-to t before words count true (Words count) refl (r .short) (omega arith) (r .kept)
       (rw (r .rest, drop-of-length-le t h, e, append-nil (take count words)))
 
   pub last-room : (v : ℕ) → place ≡ Inside v → count < maxItems
@@ -161,6 +162,6 @@ module _ (t before words : List ℕ) (count : ℕ) (place : Place) (i : ℕ) (r 
   unfolding scan
   ended-inside v h e =
       let here : count < length words = omega (arith, last-room v e) in
-      comes-to t before (set words count v) (count + 1) true (r .short) (rw (length-set words count v) (omega arith))
+      comes-to t before (set words count v) (count + 1) true (Words (count + 1)) refl (r .short) (rw (length-set words count v) (omega arith))
       (store-kept words count v before (r .kept))
       (rw (r .rest, drop-of-length-le t h, e, store-take words count v here))

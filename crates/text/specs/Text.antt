@@ -10,7 +10,10 @@
 --   tooLong t          more bytes than maxText
 --   accepted t         refusal 14 is not met: the text is not too long, and every item is a number
 --   wordsOf t          the numbers of the items before the first that is no number; none of a text that is too long
---   readOf t           the answer: how many words there are, or the refusal
+--   textRefusal        14
+--   Shown              the refusal's number or 0, and the number of words or, with the refusal, 0
+--   shown r            document 01's numbers for each case of the enum Read
+--   readOf t           the numbers of the answer to a text
 --   Reads              what reading a text leaves in the lent words
 use Prim.Native.Nat.{ℕ, _+_, _-_, _*_}
 use mathlib.Core.Path.{_≡_}
@@ -86,10 +89,28 @@ accepted t = not (tooLong t) && allNumbers (items t)
 unfoldable pub wordsOf : List ℕ → List ℕ
 wordsOf t = cond (tooLong t) [] (numbers (items t))
 
-unfoldable pub readOf : List ℕ → Read
-readOf t = cond (accepted t) (Words (length (wordsOf t))) Refused
+abbrev pub textRefusal : ℕ
+textRefusal = 14
+
+pub record Shown : Type 0 where
+  pub refusal : ℕ
+  pub number : ℕ
+
+abbrev pub counted : ℕ → Shown
+counted n = record { refusal = 0; number = n }
+
+-- No filter is to blame: its number is 0.
+abbrev pub refused : Shown
+refused = record { refusal = textRefusal; number = 0 }
+
+abbrev pub shown : Read → Shown
+shown (Words n) = counted n
+shown Refused = refused
+
+unfoldable pub readOf : List ℕ → Shown
+readOf t = cond (accepted t) (counted (length (wordsOf t))) refused
 
 -- The words of the text stand first, and the words behind them are as before.
 pub record Reads (t before after : List ℕ) (r : Read) : Type 0 where
-  pub answer : r ≡ readOf t
+  pub answer : shown r ≡ readOf t
   pub words : after ≡ wordsOf t ++ drop (length (wordsOf t)) before

@@ -1,6 +1,6 @@
 -- `builder::build` meets its contract: the outcome goes by what reading the list comes to.
 -- Assumes nothing.
-use mathlib.Core.Path.{_≡_, refl, sym, _∙_}
+use mathlib.Core.Path.{sym, _∙_}
 use denote.Ref.{now}
 use Rattle.builder.specs.Building as P
 use borrow.Author.Needs.{needs}
@@ -22,7 +22,7 @@ cast-build-accepted c = search needs
 build-accepted-requires : tie.Need-build-accepted-requires
 build-accepted-requires c κs =
     let f = c .before .before .before .filters .given in
-    sym (c .before .before .before .before .before .check .ensures) ∙ f .1
+    (f .0 .1 .0, sym (c .before .before .before .before .before .check .ensures) ∙ f .1)
 
 returns : tie.Need-returns
 returns c =
@@ -43,7 +43,7 @@ returns-2 c =
     let k = b .before .before .before .before .before .before in
     let a = k .before .before .before .before .args in
     let f = b .before .before .before .before .filters .given in
-    P.answered-accepted (now (a .list)) (now (a .table)) (now (a .scratch)) (f .0 .0) (f .0 .1 .0) (sym (k .check .ensures) ∙ f .1) (b .build-accepted .result) (b .build-accepted .last .1 .1 .1 .0) (b .build-accepted .last .1 .1 .1 .1 .0) (b .build-accepted .ensures)
+    P.answered-accepted (now (a .list)) (now (a .table)) (now (a .scratch)) (f .0 .0) (f .0 .1 .0) (sym (k .check .ensures) ∙ f .1) (b .build-accepted .result) (b .build-accepted .last .1 .1 .0) (b .build-accepted .last .1 .1 .1 .0) (b .build-accepted .ensures)
 
 pub build-spec : {M : Type 1} → statement M
 build-spec =

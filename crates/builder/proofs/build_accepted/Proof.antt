@@ -1,7 +1,7 @@
 -- `builder::build_accepted` meets its contract: each end of placing is a law of specs/Finished.
 -- Assumes nothing.
-use Prim.Native.Nat.{ℕ, _<_, _≤_, _*_}
-use mathlib.Core.Path.{_≡_, refl, sym, _∙_, ap, subst}
+use Prim.Native.Nat.{ℕ, _*_}
+use mathlib.Core.Path.{sym, _∙_, ap, subst}
 use mathlib.Core.List.{List, []}
 use native.Mathlib.Omega.{arith}
 use lib.ListN.{length}
@@ -28,7 +28,7 @@ returns c =
     let q = c .before in
     let s = q .before .before .before .before in
     let a = s .args in
-    F.short (now (a .list)) (a .n) (a .tests) [] (now (a .table)) (now (a .scratch)) (q .slots-of .result) (s .pre) (q .slots-of .ensures) (c .if1 .taken)
+    F.short (now (a .list)) (a .n) [] (now (a .table)) (now (a .scratch)) (q .slots-of .result) (s .pre) (q .slots-of .ensures) (c .if1 .taken)
 
 rank-sets-requires : tie.Need-rank-sets-requires
 rank-sets-requires c κs = search needs
@@ -44,7 +44,7 @@ place-start-requires c κs =
     let q = k .before .before .before in
     let s = q .before .before .before .before in
     let a = s .args in
-    F.startable (now (a .list)) (a .n) (a .tests) (k .rank-sets .last .1 .0) (now (a .table)) (now (a .scratch)) (q .slots-of .result) (s .pre) (q .slots-of .ensures) (k .rank-sets .ensures) (k .before .before .if1 .left)
+    F.startable (now (a .list)) (a .n) (k .rank-sets .last .1 .0) (now (a .table)) (now (a .scratch)) (q .slots-of .result) (s .pre) (q .slots-of .ensures) (k .rank-sets .ensures) (k .before .before .if1 .left)
 
 mul-clear : tie.Need-mul-clear
 mul-clear c = search needs
@@ -55,16 +55,16 @@ clear-requires c κs = search needs
 enum-known-room : tie.Need-enum-known-room
 enum-known-room c = search needs
 
-cast-t24 : tie.Need-cast-t24
+cast-t23 : tie.Need-cast-t23
 unfolding slotsOf
-cast-t24 c =
+cast-t23 c =
     let v = c .before .before .before .before .before .before .before .before .before .before .before in
     let k = v .before .before .before .before in
     let q = k .before .before .before in
     let s = q .before .before .before .before in
     let a = s .args in
     let u = c .before .room .given in
-    omega (arith, F.few-states (now (a .list)) (a .n) (a .tests) (k .rank-sets .last .1 .0) (now (a .table)) (now (a .scratch)) (q .slots-of .result) (s .pre) (q .slots-of .ensures) (k .rank-sets .ensures) (k .before .before .if1 .left) (v .place-start .result) (v .place-start .last .1 .1 .1 .1 .1 .0) (v .place-start .last .1 .1 .1 .1 .1 .1 .0) (v .place-start .ensures) (u .0 .0) (u .1))
+    omega (arith, F.few-states (now (a .list)) (a .n) (k .rank-sets .last .1 .0) (now (a .table)) (now (a .scratch)) (q .slots-of .result) (s .pre) (q .slots-of .ensures) (k .rank-sets .ensures) (k .before .before .if1 .left) (v .place-start .result) (v .place-start .last .1 .1 .1 .1 .0) (v .place-start .last .1 .1 .1 .1 .1 .0) (v .place-start .ensures) (u .0 .0) (u .1))
 
 enum-told : tie.Need-enum-told
 enum-told c = search needs
@@ -91,8 +91,8 @@ returns-2 c =
     let s = q .before .before .before .before in
     let a = s .args in
     let u = c .before .room .given in
-    subst (λ (x : List ℕ). Answered (accepted (filtersOf (now (a .list))) (now (a .table)) (now (a .scratch))) (B.States (u .0 .0)) (v .place-start .last .1 .1 .1 .1 .1 .0) x) (sym (w .clear .ensures))
-    (F.finished (now (a .list)) (a .n) (a .tests) (k .rank-sets .last .1 .0) (now (a .table)) (now (a .scratch)) (q .slots-of .result) (s .pre) (q .slots-of .ensures) (k .rank-sets .ensures) (k .before .before .if1 .left) (v .place-start .result) (v .place-start .last .1 .1 .1 .1 .1 .0) (v .place-start .last .1 .1 .1 .1 .1 .1 .0) (v .place-start .ensures) (u .0 .0) (u .1) (v .place-start .kept .1 .1 .1 .1 .1 .0))
+    subst (λ (x : List ℕ). Answered (accepted (filtersOf (now (a .list))) (now (a .table)) (now (a .scratch))) (B.States (u .0 .0)) (v .place-start .last .1 .1 .1 .1 .0) x) (sym (w .clear .ensures))
+    (F.finished (now (a .list)) (a .n) (k .rank-sets .last .1 .0) (now (a .table)) (now (a .scratch)) (q .slots-of .result) (s .pre) (q .slots-of .ensures) (k .rank-sets .ensures) (k .before .before .if1 .left) (v .place-start .result) (v .place-start .last .1 .1 .1 .1 .0) (v .place-start .last .1 .1 .1 .1 .1 .0) (v .place-start .ensures) (u .0 .0) (u .1) (v .place-start .kept .1 .1 .1 .1 .0))
 
 same-length-3 : tie.Need-same-length-3
 same-length-3 c = search needs
@@ -112,8 +112,8 @@ returns-3 c =
     let s = q .before .before .before .before in
     let a = s .args in
     subst (λ (y : List ℕ). Answered (accepted (filtersOf (now (a .list))) (now (a .table)) (now (a .scratch))) (B.Refused 11 0) y (w .clear .last .0)) (sym (x .clear2 .ensures))
-    (subst (λ (y : List ℕ). Answered (accepted (filtersOf (now (a .list))) (now (a .table)) (now (a .scratch))) (B.Refused 11 0) (cleared (recordWords * q .slots-of .result) (v .place-start .last .1 .1 .1 .1 .1 .0)) y) (sym (w .clear .ensures))
-    (F.finished-full (now (a .list)) (a .n) (a .tests) (k .rank-sets .last .1 .0) (now (a .table)) (now (a .scratch)) (q .slots-of .result) (s .pre) (q .slots-of .ensures) (k .rank-sets .ensures) (k .before .before .if1 .left) (v .place-start .result) (v .place-start .last .1 .1 .1 .1 .1 .0) (v .place-start .last .1 .1 .1 .1 .1 .1 .0) (v .place-start .ensures) (e .enum-told .given .1)))
+    (subst (λ (y : List ℕ). Answered (accepted (filtersOf (now (a .list))) (now (a .table)) (now (a .scratch))) (B.Refused 11 0) (cleared (recordWords * q .slots-of .result) (v .place-start .last .1 .1 .1 .1 .0)) y) (sym (w .clear .ensures))
+    (F.finished-full (now (a .list)) (a .n) (k .rank-sets .last .1 .0) (now (a .table)) (now (a .scratch)) (q .slots-of .result) (s .pre) (q .slots-of .ensures) (k .rank-sets .ensures) (k .before .before .if1 .left) (v .place-start .result) (v .place-start .last .1 .1 .1 .1 .0) (v .place-start .last .1 .1 .1 .1 .1 .0) (v .place-start .ensures) (e .enum-told .given .1)))
 
 pub build-accepted-spec : {M : Type 1} → statement M
 build-accepted-spec =
@@ -128,7 +128,7 @@ build-accepted-spec =
     mul-clear
     clear-requires
     enum-known-room
-    cast-t24
+    cast-t23
     enum-told
     mul-clear-2
     clear-requires-2

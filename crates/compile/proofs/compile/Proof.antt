@@ -6,14 +6,14 @@ use borrow.Author.Needs.{needs}
 use Rattle.compile.proofs.compile.Statement.{statement}
 use Rattle.compile.proofs.compile.Tie as tie
 
-slice-aggregate-build : tie.Need-slice-aggregate-build
-slice-aggregate-build c = search needs
+slice-aggregate-build-text : tie.Need-slice-aggregate-build-text
+slice-aggregate-build-text c = search needs
 
-slice-aggregate-build-2 : tie.Need-slice-aggregate-build-2
-slice-aggregate-build-2 c = search needs
+slice-aggregate-build-text-2 : tie.Need-slice-aggregate-build-text-2
+slice-aggregate-build-text-2 c = search needs
 
-build-requires : tie.Need-build-requires
-build-requires c κs = search needs
+build-text-requires : tie.Need-build-text-requires
+build-text-requires c κs = search needs
 
 enum-known-states : tie.Need-enum-known-states
 enum-known-states c = search needs
@@ -40,7 +40,7 @@ print-states-requires : tie.Need-print-states-requires
 print-states-requires c κs =
     let states = c .before .before .before .before .before .before in
     let built = states .before .before .before .before in
-    omega (arith, states-fit _ _ _ _ _ (built .build .ensures .answer) (states .states .given .1))
+    omega (arith, states-fit _ _ _ _ _ (built .build-text .ensures .answer) (states .states .given .1))
 
 enum-known-number : tie.Need-enum-known-number
 enum-known-number c = search needs
@@ -58,9 +58,9 @@ pub compile-spec : {M : Type 1} → statement M
 compile-spec =
     tie.close
     (tie.spec
-    slice-aggregate-build
-    slice-aggregate-build-2
-    build-requires
+    slice-aggregate-build-text
+    slice-aggregate-build-text-2
+    build-text-requires
     enum-known-states
     slice-aggregate-write-all
     write-all-requires

@@ -31,18 +31,13 @@ unfolding linksAt
 returns-3 c =
     rw (c .before .before .before .before .before .if1 .left, eq-eqb _ _ (c .before .before .before .if2 .left), eq-eqb _ _ (c .if3 .taken))
 
-shared-slice-read-if4 : tie.Need-shared-slice-read-if4
-shared-slice-read-if4 c = search needs
+shared-slice-read-result : tie.Need-shared-slice-read-result
+shared-slice-read-result c = search needs
 
 returns-4 : tie.Need-returns-4
 unfolding linksAt
 returns-4 c =
-    rw (c .before .before .before .before .before .before .before .if1 .left, eq-eqb _ _ (c .before .before .before .before .before .if2 .left), ne-eqb _ _ (c .before .before .if3 .left), ne-eqb _ _ (c .if4 .taken))
-
-returns-5 : tie.Need-returns-5
-unfolding linksAt
-returns-5 c =
-    rw (c .before .before .before .before .before .before .before .if1 .left, eq-eqb _ _ (c .before .before .before .before .before .if2 .left), ne-eqb _ _ (c .before .before .if3 .left), eq-eqb _ _ (c .if4 .left))
+    rw (c .before .before .before .before .before .before .if1 .left, eq-eqb _ _ (c .before .before .before .before .if2 .left), ne-eqb _ _ (c .before .if3 .left))
 
 pub links-spec : {M : Type 1} → statement M
 links-spec =
@@ -55,6 +50,5 @@ links-spec =
     shared-slice-read-if3
     shared-slice-read-if3-2
     returns-3
-    shared-slice-read-if4
-    returns-4
-    returns-5)
+    shared-slice-read-result
+    returns-4)

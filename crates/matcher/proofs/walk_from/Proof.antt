@@ -1,28 +1,28 @@
 -- `matcher::walk_from` meets its contract. The loop's invariant: the walk from the record reached, with the questions left, answers the whole walk.
 -- A record that ends the walk answers for it; a way goes on to the next record with one question fewer, a chain with one fewer for each link. Assumes nothing.
-use Prim.Native.Nat.{ℕ, _-_}
-use native.Mathlib.Nat.{sub-zero}
+use Prim.Native.Nat.{ℕ}
+use native.Mathlib.Nat.{sub-self}
 use native.Mathlib.Omega.{arith}
 use mathlib.Core.Path.{_≡_, sym, _∙_}
 use mathlib.Core.List.{List}
 use borrow.Author.Needs.{needs}
 use Rattle.residue.specs.declared.Reading.{Reading}
 use Rattle.residue.specs.declared.Reading.the-variants.{Value}
-use Rattle.matcher.specs.Walk.{nextOf}
 use Rattle.fields.specs.Header.{readingAt}
+use Rattle.matcher.specs.Walk.{nextOf}
 use Rattle.matcher.proofs.Linked.{walked-on}
 use Rattle.matcher.proofs.Steps.{Walking, Asking, read, ended, asking, lost, moved, way-absent, way-holds, way-fails}
 use Rattle.matcher.proofs.walk_from.Statement.{statement}
 use Rattle.matcher.proofs.walk_from.Tie as tie
 
 abbrev Inv-loop : tie.InvT-loop
-Inv-loop present values table states allowance s₀ asked₀ s asked =
-    Walking table states (readingAt present values) allowance asked s
+Inv-loop present values table states allowance at₀ at =
+    Walking table states (readingAt present values) allowance (at .left) (at .s)
 
 abbrev μ-loop : tie.MeasureT-loop
-μ-loop present values table states allowance s₀ asked₀ s asked = allowance - asked
+μ-loop present values table states allowance at₀ at = at .left
 
--- The table, the number of states, the readings and the record of a turn, and that its record may be asked.
+-- The table, the readings and the record of a turn, and that its record may be asked.
 abbrev Loop : Type 0
 Loop = tie.At-loop Inv-loop μ-loop
 
@@ -32,35 +32,41 @@ table-of l = l .before .before .args .table .now
 abbrev readings-of : Loop → ℕ → Reading
 readings-of l = readingAt (l .before .before .args .present) (l .before .before .args .values .now)
 
+abbrev record-of : Loop → ℕ
+record-of l = l .loop .at .s
+
 abbrev AskingAt : Loop → Type 0
 AskingAt l =
     let a = l .before .before .args in
-    Asking (table-of l) (a .states) (readings-of l) (a .allowance) (l .loop .asked) (l .loop .s)
+    Asking (table-of l) (a .states) (readings-of l) (a .allowance) (l .loop .at .left) (record-of l)
 
-asks : (c : tie.Else1 Inv-loop μ-loop) → AskingAt (c .before .before .before)
-asks c = asking (c .before .before .before .loop .inv) (sym (c .before .ends .ensures) ∙ c .if1 .left)
+asks : (c : tie.Else1 Inv-loop μ-loop) → AskingAt (c .before .before .before .before)
+asks c = asking (c .before .before .before .before .loop .inv) (sym (c .before .ends .ensures) ∙ c .if1 .left)
 
--- The absent way.
+-- The absent way: its turn, and where it leads.
+abbrev turn-of : tie.After-enum-told Inv-loop μ-loop → tie.Else1 Inv-loop μ-loop
+turn-of c = c .before .before .before .before .before
+
 absent-way :
     (c : tie.After-enum-told Inv-loop μ-loop) →
-    let l = c .before .before .before .before .before .before .before in
-    nextOf (table-of l) (readings-of l) (l .loop .s) ≡ read (table-of l) (l .loop .s) 6
+    let l = turn-of c .before .before .before .before in
+    nextOf (table-of l) (readings-of l) (record-of l) ≡ read (table-of l) (record-of l) 6
 absent-way c = way-absent _ _ _ (sym (c .before .before .reading-at .ensures) ∙ c .enum-told .given .1)
 
 -- Where the test has been worked out: the turn, its question, the number that was read.
 abbrev loop-of : tie.After-holds-word Inv-loop μ-loop → Loop
-loop-of h = h .before .before .before .before .before .before .before .before .before .before .before .before
+loop-of h = h .before .before .before .before .before .before .before .before .before .before .before .before .before .before
 
 abbrev number-of : tie.After-holds-word Inv-loop μ-loop → ℕ
 number-of h = h .before .before .before .before .before .x .given .0 .0
 
 asks-value : (h : tie.After-holds-word Inv-loop μ-loop) → AskingAt (loop-of h)
-asks-value h = asks (h .before .before .before .before .before .before .before .before .before)
+asks-value h = asks (h .before .before .before .before .before .before .before .before .before .before)
 
 reads :
     (h : tie.After-holds-word Inv-loop μ-loop) →
     let l = loop-of h in
-    readings-of l (read (table-of l) (l .loop .s) 1) ≡ Value (number-of h)
+    readings-of l (read (table-of l) (record-of l) 1) ≡ Value (number-of h)
 reads h =
     let x = h .before .before .before .before .before in
     sym (x .before .before .reading-at .ensures) ∙ x .x .given .1
@@ -68,18 +74,18 @@ reads h =
 holds-way :
     (c : tie.Then3 Inv-loop μ-loop) →
     let l = loop-of (c .before) in
-    nextOf (table-of l) (readings-of l) (l .loop .s) ≡ read (table-of l) (l .loop .s) 4
+    nextOf (table-of l) (readings-of l) (record-of l) ≡ read (table-of l) (record-of l) 4
 holds-way c = way-holds _ _ _ _ (reads (c .before)) (sym (c .before .holds-word .ensures) ∙ c .if3 .taken)
 
 fails-way :
     (c : tie.Else3 Inv-loop μ-loop) →
     let l = loop-of (c .before) in
-    nextOf (table-of l) (readings-of l) (l .loop .s) ≡ read (table-of l) (l .loop .s) 5
+    nextOf (table-of l) (readings-of l) (record-of l) ≡ read (table-of l) (record-of l) 5
 fails-way c = way-fails _ _ _ _ (reads (c .before)) (sym (c .before .holds-word .ensures) ∙ c .if3 .left)
 
 loop-holds : tie.Need-loop-holds Inv-loop μ-loop
 loop-holds c =
-    let none-asked = sub-zero (c .before .args .allowance) in
+    let none-asked = sub-self (c .before .args .allowance) in
     record { inside = search needs; within = search needs; rest = rw none-asked }
 
 cast-b : tie.Need-cast-b Inv-loop μ-loop
@@ -106,12 +112,19 @@ part-words-end c = search needs
 ends-requires : tie.Need-ends-requires Inv-loop μ-loop
 ends-requires c κs = search needs
 
+sub-end : tie.Need-sub-end Inv-loop μ-loop
+sub-end c = search needs
+
 end-requires : tie.Need-end-requires Inv-loop μ-loop
 end-requires c κs = search needs
 
 returns : tie.Need-returns Inv-loop μ-loop
 returns c =
-    c .end .ensures ∙ ended (c .before .before .before .before .loop .inv) (sym (c .before .before .ends .ensures) ∙ c .before .if1 .taken)
+    let turn = c .before .before in
+    c .end .ensures ∙ ended (turn .before .before .before .before .loop .inv) (sym (turn .before .ends .ensures) ∙ turn .if1 .taken)
+
+sub-at : tie.Need-sub-at Inv-loop μ-loop
+sub-at c = omega (arith, asks (c .before))
 
 shared-slice-read-reading-at : tie.Need-shared-slice-read-reading-at Inv-loop μ-loop
 shared-slice-read-reading-at c = search needs
@@ -125,22 +138,21 @@ enum-known-x c = search needs
 enum-told : tie.Need-enum-told Inv-loop μ-loop
 enum-told c = search needs
 
-shared-slice-read-s : tie.Need-shared-slice-read-s Inv-loop μ-loop
-shared-slice-read-s c = search needs
+shared-slice-read-at : tie.Need-shared-slice-read-at Inv-loop μ-loop
+shared-slice-read-at c = search needs
 
 returns-2 : tie.Need-returns-2 Inv-loop μ-loop
 returns-2 c =
-    lost (asks (c .before .before .before .before .before .before)) _ (absent-way (c .before .before)) (c .if2 .taken)
-
-add-asked : tie.Need-add-asked Inv-loop μ-loop
-add-asked c = omega (arith, asks (c .before .before .before .before .before .before))
+    let way = c .before .before .before in
+    lost (asks (turn-of way)) _ (absent-way way) (c .if2 .taken)
 
 loop-less : tie.Need-loop-less Inv-loop μ-loop
-loop-less c = omega (arith, asks (c .before .before .before .before .before .before))
+loop-less c = omega (arith, asks (turn-of (c .before .before .before)))
 
 loop-again : tie.Need-loop-again Inv-loop μ-loop
 loop-again c =
-    moved (asks (c .before .before .before .before .before .before)) _ (absent-way (c .before .before)) (c .if2 .left)
+    let way = c .before .before .before in
+    moved (asks (turn-of way)) _ (absent-way way) (c .if2 .left)
 
 shared-slice-read-holds-word : tie.Need-shared-slice-read-holds-word Inv-loop μ-loop
 shared-slice-read-holds-word c = search needs
@@ -154,75 +166,50 @@ shared-slice-read-holds-word-3 c = search needs
 holds-word-requires : tie.Need-holds-word-requires Inv-loop μ-loop
 holds-word-requires c κs = search needs
 
-shared-slice-read-s-2 : tie.Need-shared-slice-read-s-2 Inv-loop μ-loop
-shared-slice-read-s-2 c = search needs
+shared-slice-read-at-2 : tie.Need-shared-slice-read-at-2 Inv-loop μ-loop
+shared-slice-read-at-2 c = search needs
 
 returns-3 : tie.Need-returns-3 Inv-loop μ-loop
 returns-3 c =
-    lost (asks-value (c .before .before .before)) _ (holds-way (c .before .before)) (c .if4 .taken)
-
-add-asked-2 : tie.Need-add-asked-2 Inv-loop μ-loop
-add-asked-2 c = omega (arith, asks-value (c .before .before .before))
+    let way = c .before .before .before in
+    lost (asks-value (way .before)) _ (holds-way way) (c .if4 .taken)
 
 loop-less-2 : tie.Need-loop-less-2 Inv-loop μ-loop
-loop-less-2 c = omega (arith, asks-value (c .before .before .before))
+loop-less-2 c = omega (arith, asks-value (c .before .before .before .before))
 
 loop-again-2 : tie.Need-loop-again-2 Inv-loop μ-loop
 loop-again-2 c =
-    moved (asks-value (c .before .before .before)) _ (holds-way (c .before .before)) (c .if4 .left)
+    let way = c .before .before .before in
+    moved (asks-value (way .before)) _ (holds-way way) (c .if4 .left)
 
 shared-slice-read-next : tie.Need-shared-slice-read-next Inv-loop μ-loop
 shared-slice-read-next c = search needs
 
 returns-4 : tie.Need-returns-4 Inv-loop μ-loop
 returns-4 c =
-    lost (asks-value (c .before .before .before)) _ (fails-way (c .before .before)) (c .if5 .taken)
+    let way = c .before .before in
+    lost (asks-value (way .before)) _ (fails-way way) (c .if5 .taken)
 
-add-asked-3 : tie.Need-add-asked-3 Inv-loop μ-loop
-add-asked-3 c = omega (arith, asks-value (c .before .before .before))
+shared-slice-read-follow : tie.Need-shared-slice-read-follow Inv-loop μ-loop
+shared-slice-read-follow c = search needs
 
-sub-room : tie.Need-sub-room Inv-loop μ-loop
-sub-room c = omega (arith, asks-value (c .before .before .before))
-
-room-requires : tie.Need-room-requires Inv-loop μ-loop
-room-requires c κs =
-    let l = loop-of (c .before .before .before) in
-    omega (arith, l .loop .inv, l .before .before .pre)
-
-shared-slice-read-chain : tie.Need-shared-slice-read-chain Inv-loop μ-loop
-shared-slice-read-chain c = search needs
-
-chain-requires : tie.Need-chain-requires Inv-loop μ-loop
-chain-requires c κs =
-    let h = c .before .before .before .before .before in
-    let room = loop-of h .before .before .pre .1 in
-    (c .before .before .if5 .left, (room .0, (room .1, asks-value h .known)))
-
-mul-s : tie.Need-mul-s Inv-loop μ-loop
-mul-s c =
-    let l = loop-of (c .before .before .before .before .before .before) in
-    omega (arith, c .chain .ensures, l .before .before .pre)
-
-add-s : tie.Need-add-s Inv-loop μ-loop
-add-s c =
-    let l = loop-of (c .before .before .before .before .before .before) in
-    omega (arith, c .chain .ensures, l .before .before .pre)
-
-add-asked-4 : tie.Need-add-asked-4 Inv-loop μ-loop
-add-asked-4 c =
-    let h = c .before .before .before .before .before .before in
-    omega (arith, loop-of h .before .before .fits, asks-value h, c .chain .ensures, c .before .before .room .ensures)
+follow-requires : tie.Need-follow-requires Inv-loop μ-loop
+follow-requires c κs =
+    let h = c .before .before .before .before in
+    let l = loop-of h in
+    let room = l .before .before .pre .1 in
+    (l .loop .inv .inside, (c .before .if5 .left, (room .0, (room .1, asks-value h .known))))
 
 loop-less-3 : tie.Need-loop-less-3 Inv-loop μ-loop
 loop-less-3 c =
-    let h = c .before .before .before .before .before .before in
-    omega (arith, asks-value h, c .chain .ensures, c .before .before .room .ensures)
+    omega (arith, asks-value (c .before .before .before .before .before), c .follow .ensures)
 
 loop-again-3 : tie.Need-loop-again-3 Inv-loop μ-loop
 loop-again-3 c =
-    let h = c .before .before .before .before .before .before in
-    let next = moved (asks-value h) _ (fails-way (c .before .before .before .before .before)) (c .before .before .before .if5 .left) in
-    walked-on next (reads h) (c .before .before .room .ensures) (c .chain .ensures)
+    let way = c .before .before .before .before in
+    let h = way .before in
+    let next = moved (asks-value h) _ (fails-way way) (c .before .before .if5 .left) in
+    walked-on next (reads h) (c .follow .ensures)
 
 pub walk-from-spec : {M : Type 1} → statement M
 walk-from-spec =
@@ -239,35 +226,29 @@ walk-from-spec =
     part-words-start
     part-words-end
     ends-requires
+    sub-end
     end-requires
     returns
+    sub-at
     shared-slice-read-reading-at
     reading-at-requires
     enum-known-x
     enum-told
-    shared-slice-read-s
+    shared-slice-read-at
     returns-2
-    add-asked
     loop-less
     loop-again
     shared-slice-read-holds-word
     shared-slice-read-holds-word-2
     shared-slice-read-holds-word-3
     holds-word-requires
-    shared-slice-read-s-2
+    shared-slice-read-at-2
     returns-3
-    add-asked-2
     loop-less-2
     loop-again-2
     shared-slice-read-next
     returns-4
-    add-asked-3
-    sub-room
-    room-requires
-    shared-slice-read-chain
-    chain-requires
-    mul-s
-    add-s
-    add-asked-4
+    shared-slice-read-follow
+    follow-requires
     loop-less-3
     loop-again-3)

@@ -1,18 +1,21 @@
--- The state builder and the way builder meet their contracts: each way out is a law of specs/Placed. The measure is the number of questions that may still follow.
+-- The state builder and the way builder meet their contracts: each way out is a law of specs/Placed. The measure is the number of tests that remain in the state of slot `at`, twice, and one more for the state builder.
 -- Assumes nothing.
-use mathlib.Core.Path.{_≡_, _∙_, subst, sym}
-use mathlib.Core.Bool.{Bool, true, false, not}
+use mathlib.Core.Path.{_≡_, refl, _∙_, subst, sym}
+use mathlib.Core.Bool.{Bool, false, not}
+use mathlib.Core.List.{List}
 use native.Mathlib.Omega.{arith}
-use lib.ListN.{length, set, length-set}
+use lib.ListN.{length-set}
 use borrow.Author.Tests.{not-true, not-false}
 use denote.Ref.{now}
 use Rattle.tables.specs.Tables.{recordWords}
 use Rattle.slots.specs.Words.{filterSlot}
-use Rattle.automaton.specs.Placing.{nextWord}
+use Rattle.slots.specs.Slots.{asksIn}
+use Rattle.machine.specs.Remaining.{GoodWords, testsLeft}
+use Rattle.builder.specs.Memory.{slotAt}
 use Rattle.builder.specs.Placed as P
-use Rattle.builder.specs.Promises.{Ready, Placing, Meeting}
+use Rattle.builder.specs.Promises.{Asking}
 use borrow.Author.Needs.{needs}
-use Prim.Native.Nat.{ℕ, _<_, _≤_, _*_, _+_, _-_}
+use Prim.Native.Nat.{ℕ, _<_, _≤_, _*_, _+_}
 use borrow.Fn.Kinds.{In}
 use borrow.Fn.PlainCycle.{Measures, is, falls, and}
 use Rattle.builder.proofs.place.place_state.Reads as place-state
@@ -31,11 +34,20 @@ use Rattle.builder.proofs.place.+place_state+place_way.Tie.{close}
 roomy : (n k k' : ℕ) → k' ≡ k → filterSlot * n ≤ k → filterSlot * n ≤ k'
 roomy n k k' e h = subst (λ (m : ℕ). filterSlot * n ≤ m) (sym e) h
 
+-- What is below the caller's measure is below its value.
+below : {m j t : ℕ} → m < j → j ≡ t → m < t
+below {m} h e = subst (λ (k : ℕ). m < k) e h
+
+-- The state asks, by the function that was called.
+asked : {n : ℕ} {ranks w : List ℕ} (r : Bool) → GoodWords n ranks w → r ≡ asksIn n w → not r ≡ false → Asking n ranks w
+asked r good e h = record { good = good; asks = sym e ∙ not-false r h }
+
+-- The tests that remain in the state of slot `at`, by the arguments' row: n, the scratch, `at`.
 abbrev μ-place-state : Measures 4 place-state-kinds.ps ℕ
-μ-place-state κs a = 2 * a .1 .1 .1 .0
+μ-place-state κs a = 2 * testsLeft (a .1 .0) (slotAt (a .1 .0) (now (a .1 .1 .1 .1 .0)) (a .1 .1 .1 .1 .1 .1 .0)) + 1
 
 abbrev μ-place-way : Measures 4 place-way-kinds.ps ℕ
-μ-place-way κs a = 2 * a .1 .1 .1 .0 + 1
+μ-place-way κs a = 2 * testsLeft (a .1 .0) (slotAt (a .1 .0) (now (a .1 .1 .1 .1 .0)) (a .1 .1 .1 .1 .1 .1 .0))
 
 abbrev place-state-at : ℕ → In 4 place-state-kinds.ps
 place-state-at t =
@@ -52,17 +64,6 @@ abbrev place-way-below : ℕ → In 4 place-way-kinds.ps
 place-way-below t =
     and 4 place-way-kinds.ps (falls 4 place-way-kinds.ps _<_ μ-place-way t) place-way.Pre
 
-place-state-returns : (t : ℕ) → place-state-lts.Need-returns (
-  asks-reads.Asked,
-  asks-reads.Learnt,
-  place-way-below t,
-  place-way.Post,
-) (place-state-at t) place-state.Post
-place-state-returns t c =
-    let start = c .before .before .before .before .before in
-    let a = start .args in
-    P.none-left (a .n) (a .slots) (now (a .ranks)) (a .left) (a .at) (a .used) (now (a .table)) (now (a .scratch)) (start .pre .1 .0) (c .if1 .taken)
-
 place-state-asks-requires : (t : ℕ) → place-state-lts.Need-asks-requires (
   asks-reads.Asked,
   asks-reads.Learnt,
@@ -70,7 +71,7 @@ place-state-asks-requires : (t : ℕ) → place-state-lts.Need-asks-requires (
   place-way.Post,
 ) (place-state-at t) place-state.Post
 place-state-asks-requires t c κs =
-    let start = c .before .before .before .before .before .before in
+    let start = c .before .before .before .before .before in
     let a = start .args in
     P.held (a .n) (a .slots) (now (a .ranks)) (a .at) (a .used) (now (a .table)) (now (a .scratch)) (start .pre .1 .0)
 
@@ -82,24 +83,16 @@ place-state-same-length : (t : ℕ) → place-state-lts.Need-same-length (
 ) (place-state-at t) place-state.Post
 place-state-same-length t c = search needs
 
-place-state-returns-2 : (t : ℕ) → place-state-lts.Need-returns-2 (
+place-state-returns : (t : ℕ) → place-state-lts.Need-returns (
   asks-reads.Asked,
   asks-reads.Learnt,
   place-way-below t,
   place-way.Post,
 ) (place-state-at t) place-state.Post
-place-state-returns-2 t c =
-    let start = c .before .before .before .before .before .before .before .before in
+place-state-returns t c =
+    let start = c .before .before .before .before .before .before .before in
     let a = start .args in
-    P.none-asked (a .n) (a .slots) (now (a .ranks)) (a .left) (a .at) (a .used) (now (a .table)) (now (a .scratch)) (start .pre .1 .0) (sym (c .before .asks .ensures) ∙ not-true (c .before .asks .result) (c .if2 .taken))
-
-place-state-sub-less : (t : ℕ) → place-state-lts.Need-sub-less (
-  asks-reads.Asked,
-  asks-reads.Learnt,
-  place-way-below t,
-  place-way.Post,
-) (place-state-at t) place-state.Post
-place-state-sub-less t c = search needs
+    P.none-asked (a .n) (a .slots) (now (a .ranks)) (a .at) (a .used) (now (a .table)) (now (a .scratch)) (start .pre .1 .0) (sym (c .before .asks .ensures) ∙ not-true (c .before .asks .result) (c .if1 .taken))
 
 place-state-place-way-requires : (t : ℕ) → place-state-lts.Need-place-way-requires (
   asks-reads.Asked,
@@ -108,8 +101,10 @@ place-state-place-way-requires : (t : ℕ) → place-state-lts.Need-place-way-re
   place-way.Post,
 ) (place-state-at t) place-state.Post
 place-state-place-way-requires t c κs =
-    let start = c .before .before .before .before .before .before .before .before .before .before .before in
-    (subst (λ (j : ℕ). 2 * (start .args .left - 1) + 1 < j) (start .pre .0) (P.way-less (start .args .left) (c .before .before .before .before .before .before .if1 .left)), start .pre .1)
+    let start = c .before .before .before .before .before .before .before .before .before .before in
+    let a = start .args in
+    let asking = asked (c .before .before .before .before .asks .result) (start .pre .1 .1 .1) (c .before .before .before .before .asks .ensures) (c .before .before .before .if1 .left) in
+    (below (P.way-less (a .n) _ _ refl) (start .pre .0), (start .pre .1 .0, (start .pre .1 .1 .0, asking)))
 
 place-state-enum-known-holds : (t : ℕ) → place-state-lts.Need-enum-known-holds (
   asks-reads.Asked,
@@ -151,19 +146,18 @@ place-state-same-length-4 : (t : ℕ) → place-state-lts.Need-same-length-4 (
 ) (place-state-at t) place-state.Post
 place-state-same-length-4 t c = search needs
 
-place-state-returns-3 : (t : ℕ) → place-state-lts.Need-returns-3 (
+place-state-returns-2 : (t : ℕ) → place-state-lts.Need-returns-2 (
   asks-reads.Asked,
   asks-reads.Learnt,
   place-way-below t,
   place-way.Post,
 ) (place-state-at t) place-state.Post
-place-state-returns-3 t c =
+place-state-returns-2 t c =
     let w = c .before .before .before .before .before .before .before .before in
-    let start = w .before .before .before .before .before .before .before .before .before .before .before .before in
+    let start = w .before .before .before .before .before .before .before .before .before .before .before in
     let a = start .args in
-    let more = w .before .before .before .before .before .before .before .if1 .left in
-    let asked = sym (w .before .before .before .before .before .asks .ensures) ∙ not-false (w .before .before .before .before .before .asks .result) (w .before .before .before .before .if2 .left) in
-    P.first-full (a .n) (a .slots) (now (a .ranks)) (a .left) (a .at) (a .used) (now (a .table)) (now (a .scratch)) (start .pre .1 .0) more asked (w .place-way .result) (w .place-way .last .1 .1 .1 .1 .0) (w .place-way .last .1 .1 .1 .1 .1 .0) (c .enum-told .given .1) (w .place-way .ensures)
+    let asking = asked (w .before .before .before .before .before .asks .result) (start .pre .1 .1 .1) (w .before .before .before .before .before .asks .ensures) (w .before .before .before .before .if1 .left) in
+    P.first-full (a .n) (a .slots) (now (a .ranks)) (a .at) (a .used) (now (a .table)) (now (a .scratch)) (start .pre .1 .0) asking (w .place-way .result) (w .place-way .last .1 .1 .1 .0) (w .place-way .last .1 .1 .1 .1 .0) (c .enum-told .given .1) (w .place-way .ensures)
 
 place-state-place-way-requires-2 : (t : ℕ) → place-state-lts.Need-place-way-requires-2 (
   asks-reads.Asked,
@@ -173,13 +167,16 @@ place-state-place-way-requires-2 : (t : ℕ) → place-state-lts.Need-place-way-
 ) (place-state-at t) place-state.Post
 place-state-place-way-requires-2 t c κs =
     let w = c .before .before .before .before .before .before .before .before .before .before .before .before in
-    let start = w .before .before .before .before .before .before .before .before .before .before .before .before in
+    let start = w .before .before .before .before .before .before .before .before .before .before .before in
     let a = start .args in
-    let more = w .before .before .before .before .before .before .before .if1 .left in
-    let asked = sym (w .before .before .before .before .before .asks .ensures) ∙ not-false (w .before .before .before .before .before .asks .result) (w .before .before .before .before .if2 .left) in
-    let f = c .before .before .before .before .holds .given in (
-      subst (λ (j : ℕ). 2 * (a .left - 1) + 1 < j) (start .pre .0) (P.way-less (a .left) more),
-      (P.ready-second (a .n) (a .slots) (now (a .ranks)) (a .left) (a .at) (a .used) (now (a .table)) (now (a .scratch)) (start .pre .1 .0) more asked (f .0 .0) (w .place-way .result) (w .place-way .last .1 .1 .1 .1 .0) (w .place-way .last .1 .1 .1 .1 .1 .0) (f .1) (w .place-way .ensures) (w .place-way .kept .1 .1 .1 .1 .0) (w .place-way .kept .1 .1 .1 .1 .1 .0), roomy (a .n) _ _ (w .place-way .kept .1 .1 .1 .1 .1 .1 .0) (start .pre .1 .1)),
+    let asking = asked (w .before .before .before .before .before .asks .result) (start .pre .1 .1 .1) (w .before .before .before .before .before .asks .ensures) (w .before .before .before .before .if1 .left) in
+    let f = c .before .before .before .before .holds .given in
+    let same = P.slot-first (a .n) (a .slots) (now (a .ranks)) (a .at) (a .used) (now (a .table)) (now (a .scratch)) (start .pre .1 .0) asking (f .0 .0) (w .place-way .result) (w .place-way .last .1 .1 .1 .0) (w .place-way .last .1 .1 .1 .1 .0) (f .1) (w .place-way .ensures) in (
+      below (P.way-less (a .n) _ _ same) (start .pre .0),
+      (
+        P.ready-second (a .n) (a .slots) (now (a .ranks)) (a .at) (a .used) (now (a .table)) (now (a .scratch)) (start .pre .1 .0) asking (f .0 .0) (w .place-way .result) (w .place-way .last .1 .1 .1 .0) (w .place-way .last .1 .1 .1 .1 .0) (f .1) (w .place-way .ensures) (w .place-way .kept .1 .1 .1 .0) (w .place-way .kept .1 .1 .1 .1 .0),
+        (roomy (a .n) _ _ (w .place-way .kept .1 .1 .1 .1 .1 .0) (start .pre .1 .1 .0), P.asking-on (a .n) (now (a .ranks)) _ _ same asking),
+      ),
     )
 
 place-state-enum-known-fails : (t : ℕ) → place-state-lts.Need-enum-known-fails (
@@ -222,22 +219,21 @@ place-state-same-length-7 : (t : ℕ) → place-state-lts.Need-same-length-7 (
 ) (place-state-at t) place-state.Post
 place-state-same-length-7 t c = search needs
 
-place-state-returns-4 : (t : ℕ) → place-state-lts.Need-returns-4 (
+place-state-returns-3 : (t : ℕ) → place-state-lts.Need-returns-3 (
   asks-reads.Asked,
   asks-reads.Learnt,
   place-way-below t,
   place-way.Post,
 ) (place-state-at t) place-state.Post
-place-state-returns-4 t c =
+place-state-returns-3 t c =
     let v = c .before .before .before .before .before .before .before .before in
     let w = v .before .before .before .before .before .before .before .before .before .before .before .before .before in
-    let start = w .before .before .before .before .before .before .before .before .before .before .before .before in
+    let start = w .before .before .before .before .before .before .before .before .before .before .before in
     let a = start .args in
-    let more = w .before .before .before .before .before .before .before .if1 .left in
-    let asked = sym (w .before .before .before .before .before .asks .ensures) ∙ not-false (w .before .before .before .before .before .asks .result) (w .before .before .before .before .if2 .left) in
+    let asking = asked (w .before .before .before .before .before .asks .result) (start .pre .1 .1 .1) (w .before .before .before .before .before .asks .ensures) (w .before .before .before .before .if1 .left) in
     let f = v .before .before .before .before .before .holds .given in
-    P.second-full (a .n) (a .slots) (now (a .ranks)) (a .left) (a .at) (a .used) (now (a .table)) (now (a .scratch)) (start .pre .1 .0) more asked (f .0 .0) (w .place-way .result) (w .place-way .last .1 .1 .1 .1 .0) (w .place-way .last .1 .1 .1 .1 .1 .0) (f .1) (w .place-way .ensures)
-    (v .place-way2 .result) (v .place-way2 .last .1 .1 .1 .1 .0) (v .place-way2 .last .1 .1 .1 .1 .1 .0) (c .enum-told2 .given .1) (v .place-way2 .ensures)
+    P.second-full (a .n) (a .slots) (now (a .ranks)) (a .at) (a .used) (now (a .table)) (now (a .scratch)) (start .pre .1 .0) asking (f .0 .0) (w .place-way .result) (w .place-way .last .1 .1 .1 .0) (w .place-way .last .1 .1 .1 .1 .0) (f .1) (w .place-way .ensures)
+    (v .place-way2 .result) (v .place-way2 .last .1 .1 .1 .0) (v .place-way2 .last .1 .1 .1 .1 .0) (c .enum-told2 .given .1) (v .place-way2 .ensures)
 
 place-state-place-way-requires-3 : (t : ℕ) → place-state-lts.Need-place-way-requires-3 (
   asks-reads.Asked,
@@ -248,18 +244,19 @@ place-state-place-way-requires-3 : (t : ℕ) → place-state-lts.Need-place-way-
 place-state-place-way-requires-3 t c κs =
     let v = c .before .before .before .before .before .before .before .before .before .before .before .before in
     let w = v .before .before .before .before .before .before .before .before .before .before .before .before .before in
-    let start = w .before .before .before .before .before .before .before .before .before .before .before .before in
+    let start = w .before .before .before .before .before .before .before .before .before .before .before in
     let a = start .args in
-    let more = w .before .before .before .before .before .before .before .if1 .left in
-    let asked = sym (w .before .before .before .before .before .asks .ensures) ∙ not-false (w .before .before .before .before .before .asks .result) (w .before .before .before .before .if2 .left) in
+    let asking = asked (w .before .before .before .before .before .asks .result) (start .pre .1 .1 .1) (w .before .before .before .before .before .asks .ensures) (w .before .before .before .before .if1 .left) in
     let f = v .before .before .before .before .before .holds .given in
-    let g = c .before .before .before .before .fails .given in (
-      subst (λ (j : ℕ). 2 * (a .left - 1) + 1 < j) (start .pre .0) (P.way-less (a .left) more),
+    let g = c .before .before .before .before .fails .given in
+    let same = P.slot-second (a .n) (a .slots) (now (a .ranks)) (a .at) (a .used) (now (a .table)) (now (a .scratch)) (start .pre .1 .0) asking (f .0 .0) (w .place-way .result) (w .place-way .last .1 .1 .1 .0) (w .place-way .last .1 .1 .1 .1 .0) (f .1) (w .place-way .ensures)
+    (g .0 .0) (v .place-way2 .result) (v .place-way2 .last .1 .1 .1 .0) (v .place-way2 .last .1 .1 .1 .1 .0) (g .1) (v .place-way2 .ensures) in (
+      below (P.way-less (a .n) _ _ same) (start .pre .0),
       (
-        P.ready-third (a .n) (a .slots) (now (a .ranks)) (a .left) (a .at) (a .used) (now (a .table)) (now (a .scratch)) (start .pre .1 .0) more asked (f .0 .0) (w .place-way .result) (w .place-way .last .1 .1 .1 .1 .0) (w .place-way .last .1 .1 .1 .1 .1 .0) (f .1) (w .place-way .ensures)
-            (g .0 .0) (v .place-way2 .result) (v .place-way2 .last .1 .1 .1 .1 .0) (v .place-way2 .last .1 .1 .1 .1 .1 .0) (g .1) (v .place-way2 .ensures)
-            (v .place-way2 .kept .1 .1 .1 .1 .0 ∙ w .place-way .kept .1 .1 .1 .1 .0) (v .place-way2 .kept .1 .1 .1 .1 .1 .0 ∙ w .place-way .kept .1 .1 .1 .1 .1 .0),
-        roomy (a .n) _ _ (v .place-way2 .kept .1 .1 .1 .1 .1 .1 .0 ∙ w .place-way .kept .1 .1 .1 .1 .1 .1 .0) (start .pre .1 .1),
+        P.ready-third (a .n) (a .slots) (now (a .ranks)) (a .at) (a .used) (now (a .table)) (now (a .scratch)) (start .pre .1 .0) asking (f .0 .0) (w .place-way .result) (w .place-way .last .1 .1 .1 .0) (w .place-way .last .1 .1 .1 .1 .0) (f .1) (w .place-way .ensures)
+            (g .0 .0) (v .place-way2 .result) (v .place-way2 .last .1 .1 .1 .0) (v .place-way2 .last .1 .1 .1 .1 .0) (g .1) (v .place-way2 .ensures)
+            (v .place-way2 .kept .1 .1 .1 .0 ∙ w .place-way .kept .1 .1 .1 .0) (v .place-way2 .kept .1 .1 .1 .1 .0 ∙ w .place-way .kept .1 .1 .1 .1 .0),
+        (roomy (a .n) _ _ (v .place-way2 .kept .1 .1 .1 .1 .1 .0 ∙ w .place-way .kept .1 .1 .1 .1 .1 .0) (start .pre .1 .1 .0), P.asking-on (a .n) (now (a .ranks)) _ _ same asking),
       ),
     )
 
@@ -287,25 +284,24 @@ place-state-same-length-10 : (t : ℕ) → place-state-lts.Need-same-length-10 (
 ) (place-state-at t) place-state.Post
 place-state-same-length-10 t c = search needs
 
-place-state-returns-5 : (t : ℕ) → place-state-lts.Need-returns-5 (
+place-state-returns-4 : (t : ℕ) → place-state-lts.Need-returns-4 (
   asks-reads.Asked,
   asks-reads.Learnt,
   place-way-below t,
   place-way.Post,
 ) (place-state-at t) place-state.Post
-place-state-returns-5 t c =
+place-state-returns-4 t c =
     let x = c .before .before .before .before .before .before in
     let v = x .before .before .before .before .before .before .before .before .before .before .before .before .before in
     let w = v .before .before .before .before .before .before .before .before .before .before .before .before .before in
-    let start = w .before .before .before .before .before .before .before .before .before .before .before .before in
+    let start = w .before .before .before .before .before .before .before .before .before .before .before in
     let a = start .args in
-    let more = w .before .before .before .before .before .before .before .if1 .left in
-    let asked = sym (w .before .before .before .before .before .asks .ensures) ∙ not-false (w .before .before .before .before .before .asks .result) (w .before .before .before .before .if2 .left) in
+    let asking = asked (w .before .before .before .before .before .asks .result) (start .pre .1 .1 .1) (w .before .before .before .before .before .asks .ensures) (w .before .before .before .before .if1 .left) in
     let f = v .before .before .before .before .before .holds .given in
     let g = x .before .before .before .before .before .fails .given in
-    P.third (a .n) (a .slots) (now (a .ranks)) (a .left) (a .at) (a .used) (now (a .table)) (now (a .scratch)) (start .pre .1 .0) more asked (f .0 .0) (w .place-way .result) (w .place-way .last .1 .1 .1 .1 .0) (w .place-way .last .1 .1 .1 .1 .1 .0) (f .1) (w .place-way .ensures)
-    (g .0 .0) (v .place-way2 .result) (v .place-way2 .last .1 .1 .1 .1 .0) (v .place-way2 .last .1 .1 .1 .1 .1 .0) (g .1) (v .place-way2 .ensures)
-    (x .place-way3 .result) (x .place-way3 .last .1 .1 .1 .1 .0) (x .place-way3 .last .1 .1 .1 .1 .1 .0) (x .place-way3 .ensures)
+    P.third (a .n) (a .slots) (now (a .ranks)) (a .at) (a .used) (now (a .table)) (now (a .scratch)) (start .pre .1 .0) asking (f .0 .0) (w .place-way .result) (w .place-way .last .1 .1 .1 .0) (w .place-way .last .1 .1 .1 .1 .0) (f .1) (w .place-way .ensures)
+    (g .0 .0) (v .place-way2 .result) (v .place-way2 .last .1 .1 .1 .0) (v .place-way2 .last .1 .1 .1 .1 .0) (g .1) (v .place-way2 .ensures)
+    (x .place-way3 .result) (x .place-way3 .last .1 .1 .1 .0) (x .place-way3 .last .1 .1 .1 .1 .0) (x .place-way3 .ensures)
 
 place-way-mul-word : (t : ℕ) → place-way-lts.Need-mul-word (
   next-word-reads.Asked,
@@ -338,7 +334,7 @@ place-way-add-word : (t : ℕ) → place-way-lts.Need-add-word (
 place-way-add-word t c =
     let start = c .before .before .before .before .before in
     let a = start .args in
-    omega (arith, P.word-within (a .n) (a .slots) (now (a .ranks)) (a .at) (a .used) (c .next-word .result) (a .o) (now (a .table)) (now (a .scratch)) (start .pre .1 .0) (c .next-word .ensures), start .good .1 .1 .1 .1 .0 .1)
+    omega (arith, P.word-within (a .n) (a .slots) (now (a .ranks)) (a .at) (a .used) (c .next-word .result) (a .o) (now (a .table)) (now (a .scratch)) (start .pre .1 .0) (c .next-word .ensures), start .good .1 .1 .1 .0 .1)
 
 place-way-meet-requires : (t : ℕ) → place-way-lts.Need-meet-requires (
   next-word-reads.Asked,
@@ -349,7 +345,8 @@ place-way-meet-requires : (t : ℕ) → place-way-lts.Need-meet-requires (
   place-state.Post,
 ) (place-way-at t) place-way.Post
 place-way-meet-requires t c κs =
-    c .before .before .before .before .before .before .before .before .pre .1
+    let start = c .before .before .before .before .before .before .before .before in
+    (start .pre .1 .0, start .pre .1 .1 .0)
 
 place-way-enum-known-number : (t : ℕ) → place-way-lts.Need-enum-known-number (
   next-word-reads.Asked,
@@ -375,7 +372,7 @@ place-way-cast-table t c =
     let a = start .args in
     let nw = w .before .before .before .before .next-word in
     let i = c .before .number .given in
-    omega (arith, P.old-below (a .n) (a .slots) (now (a .ranks)) (a .left) (a .at) (a .used) (a .o) (now (a .table)) (now (a .scratch)) (start .pre .1 .0) (i .0 .0) (w .meet .result) (w .meet .last .1 .1 .1 .0) (w .meet .last .1 .1 .1 .1 .0) (i .1) (w .meet .ensures), start .pre .1 .0 .within, start .pre .1 .0 .few)
+    omega (arith, P.old-below (a .n) (a .slots) (now (a .ranks)) (a .at) (a .used) (a .o) (now (a .table)) (now (a .scratch)) (start .pre .1 .0) (i .0 .0) (w .meet .result) (w .meet .last .1 .1 .1 .0) (w .meet .last .1 .1 .1 .1 .0) (i .1) (w .meet .ensures), start .pre .1 .0 .within, start .pre .1 .0 .few)
 
 place-way-mul-table : (t : ℕ) → place-way-lts.Need-mul-table (
   next-word-reads.Asked,
@@ -390,7 +387,7 @@ place-way-mul-table t c =
     let start = w .before .before .before .before .before .before .before .before .before in
     let a = start .args in
     let nw = w .before .before .before .before .next-word in
-    omega (arith, P.word-within (a .n) (a .slots) (now (a .ranks)) (a .at) (a .used) (nw .result) (a .o) (now (a .table)) (now (a .scratch)) (start .pre .1 .0) (nw .ensures), start .good .1 .1 .1 .1 .0 .1)
+    omega (arith, P.word-within (a .n) (a .slots) (now (a .ranks)) (a .at) (a .used) (nw .result) (a .o) (now (a .table)) (now (a .scratch)) (start .pre .1 .0) (nw .ensures), start .good .1 .1 .1 .0 .1)
 
 place-way-slice-write-table : (t : ℕ) → place-way-lts.Need-slice-write-table (
   next-word-reads.Asked,
@@ -449,10 +446,12 @@ place-way-place-state-requires t c κs =
     let w = c .before .before .before .before .before .before .before .before .before .before .before in
     let start = w .before .before .before .before .before .before .before .before .before in
     let a = start .args in
-    let nw = w .before .before .before .before .next-word in
     let e = c .before .before .before .enum-told2 in (
-      subst (λ (j : ℕ). 2 * a .left < j) (start .pre .0) (P.state-less (a .left)),
-      (P.ready-new (a .n) (a .slots) (now (a .ranks)) (a .left) (a .at) (a .used) (a .o) (now (a .table)) (now (a .scratch)) (start .pre .1 .0) (w .meet .result) (w .meet .last .1 .1 .1 .0) (w .meet .last .1 .1 .1 .1 .0) (e .given .1) (w .meet .ensures) (w .meet .kept .1 .1 .1 .0) (w .meet .kept .1 .1 .1 .1 .0), roomy (a .n) _ _ (w .meet .kept .1 .1 .1 .1 .1 .0) (start .pre .1 .1)),
+      below (P.state-less (a .n) (a .slots) (now (a .ranks)) (a .at) (a .used) (a .o) (now (a .table)) (now (a .scratch)) (start .pre .1 .0) (start .pre .1 .1 .1) (w .meet .result) (w .meet .last .1 .1 .1 .0) (w .meet .last .1 .1 .1 .1 .0) (e .given .1) (w .meet .ensures)) (start .pre .0),
+      (
+        P.ready-new (a .n) (a .slots) (now (a .ranks)) (a .at) (a .used) (a .o) (now (a .table)) (now (a .scratch)) (start .pre .1 .0) (start .pre .1 .1 .1) (w .meet .result) (w .meet .last .1 .1 .1 .0) (w .meet .last .1 .1 .1 .1 .0) (e .given .1) (w .meet .ensures) (w .meet .kept .1 .1 .1 .0) (w .meet .kept .1 .1 .1 .1 .0),
+        (roomy (a .n) _ _ (w .meet .kept .1 .1 .1 .1 .1 .0) (start .pre .1 .1 .0), P.good-new (a .n) (a .slots) (now (a .ranks)) (a .at) (a .used) (a .o) (now (a .table)) (now (a .scratch)) (start .pre .1 .0) (start .pre .1 .1 .1) (w .meet .result) (w .meet .last .1 .1 .1 .0) (w .meet .last .1 .1 .1 .1 .0) (e .given .1) (w .meet .ensures)),
+      ),
     )
 
 place-way-enum-known-placed : (t : ℕ) → place-way-lts.Need-enum-known-placed (
@@ -520,7 +519,7 @@ place-way-returns t c =
     let a = start .args in
     let nw = w .before .before .before .before .next-word in
     let e = v .before .before .before .before .enum-told2 in
-    P.placed-new-full (a .n) (a .slots) (now (a .ranks)) (a .left) (a .at) (a .used) (a .o) (now (a .table)) (now (a .scratch)) (start .pre .1 .0) (w .meet .result) (w .meet .last .1 .1 .1 .0) (w .meet .last .1 .1 .1 .1 .0) (e .given .1) (w .meet .ensures) (v .place-state .result) (v .place-state .last .1 .1 .1 .1 .0) (v .place-state .last .1 .1 .1 .1 .1 .0) (c .enum-told3 .given .1) (v .place-state .ensures)
+    P.placed-new-full (a .n) (a .slots) (now (a .ranks)) (a .at) (a .used) (a .o) (now (a .table)) (now (a .scratch)) (start .pre .1 .0) (start .pre .1 .1 .1) (w .meet .result) (w .meet .last .1 .1 .1 .0) (w .meet .last .1 .1 .1 .1 .0) (e .given .1) (w .meet .ensures) (v .place-state .result) (v .place-state .last .1 .1 .1 .0) (v .place-state .last .1 .1 .1 .1 .0) (c .enum-told3 .given .1) (v .place-state .ensures)
 
 place-way-cast-table-2 : (t : ℕ) → place-way-lts.Need-cast-table-2 (
   next-word-reads.Asked,
@@ -550,7 +549,7 @@ place-way-mul-table-2 t c =
     let start = w .before .before .before .before .before .before .before .before .before in
     let a = start .args in
     let nw = w .before .before .before .before .next-word in
-    omega (arith, P.word-within (a .n) (a .slots) (now (a .ranks)) (a .at) (a .used) (nw .result) (a .o) (now (a .table)) (now (a .scratch)) (start .pre .1 .0) (nw .ensures), start .good .1 .1 .1 .1 .0 .1)
+    omega (arith, P.word-within (a .n) (a .slots) (now (a .ranks)) (a .at) (a .used) (nw .result) (a .o) (now (a .table)) (now (a .scratch)) (start .pre .1 .0) (nw .ensures), start .good .1 .1 .1 .0 .1)
 
 place-way-slice-write-table-2 : (t : ℕ) → place-way-lts.Need-slice-write-table-2 (
   next-word-reads.Asked,
@@ -566,7 +565,7 @@ place-way-slice-write-table-2 t c =
     let start = w .before .before .before .before .before .before .before .before .before in
     let a = start .args in
     let nw = w .before .before .before .before .next-word in
-    subst (λ (k : ℕ). recordWords * a .at + nw .result < k) (sym (v .place-state .kept .1 .1 .1 .1 .0 ∙ w .meet .kept .1 .1 .1 .0)) (P.word-within (a .n) (a .slots) (now (a .ranks)) (a .at) (a .used) (nw .result) (a .o) (now (a .table)) (now (a .scratch)) (start .pre .1 .0) (nw .ensures))
+    subst (λ (k : ℕ). recordWords * a .at + nw .result < k) (sym (v .place-state .kept .1 .1 .1 .0 ∙ w .meet .kept .1 .1 .1 .0)) (P.word-within (a .n) (a .slots) (now (a .ranks)) (a .at) (a .used) (nw .result) (a .o) (now (a .table)) (now (a .scratch)) (start .pre .1 .0) (nw .ensures))
 
 place-way-same-length-4 : (t : ℕ) → place-way-lts.Need-same-length-4 (
   next-word-reads.Asked,
@@ -612,7 +611,7 @@ place-way-returns-2 t c =
     let a = start .args in
     let nw = w .before .before .before .before .next-word in
     let i = c .before .number .given in
-    P.placed-old (a .n) (a .slots) (now (a .ranks)) (a .left) (a .at) (a .used) (a .o) (now (a .table)) (now (a .scratch)) (start .pre .1 .0) (nw .result) (i .0 .0) (w .meet .result) (w .meet .last .1 .1 .1 .0) (w .meet .last .1 .1 .1 .1 .0) (nw .ensures) (i .1) (w .meet .ensures)
+    P.placed-old (a .n) (a .slots) (now (a .ranks)) (a .at) (a .used) (a .o) (now (a .table)) (now (a .scratch)) (start .pre .1 .0) (nw .result) (i .0 .0) (w .meet .result) (w .meet .last .1 .1 .1 .0) (w .meet .last .1 .1 .1 .1 .0) (nw .ensures) (i .1) (w .meet .ensures)
 
 place-way-same-length-7 : (t : ℕ) → place-way-lts.Need-same-length-7 (
   next-word-reads.Asked,
@@ -657,7 +656,7 @@ place-way-returns-3 t c =
     let start = w .before .before .before .before .before .before .before .before .before in
     let a = start .args in
     let nw = w .before .before .before .before .next-word in
-    P.placed-slotless (a .n) (a .slots) (now (a .ranks)) (a .left) (a .at) (a .used) (a .o) (now (a .table)) (now (a .scratch)) (start .pre .1 .0) (w .meet .result) (w .meet .last .1 .1 .1 .0) (w .meet .last .1 .1 .1 .1 .0) (c .enum-told .given .1) (w .meet .ensures)
+    P.placed-slotless (a .n) (a .slots) (now (a .ranks)) (a .at) (a .used) (a .o) (now (a .table)) (now (a .scratch)) (start .pre .1 .0) (w .meet .result) (w .meet .last .1 .1 .1 .0) (w .meet .last .1 .1 .1 .1 .0) (c .enum-told .given .1) (w .meet .ensures)
 
 place-way-same-length-10 : (t : ℕ) → place-way-lts.Need-same-length-10 (
   next-word-reads.Asked,
@@ -673,7 +672,7 @@ place-way-same-length-10 t c =
     let start = w .before .before .before .before .before .before .before .before .before in
     let a = start .args in
     let nw = w .before .before .before .before .next-word in
-    length-set (v .place-state .last .1 .1 .1 .1 .0) (recordWords * a .at + nw .result) (a .used) ∙ v .place-state .kept .1 .1 .1 .1 .0 ∙ w .meet .kept .1 .1 .1 .0
+    length-set (v .place-state .last .1 .1 .1 .0) (recordWords * a .at + nw .result) (a .used) ∙ v .place-state .kept .1 .1 .1 .0 ∙ w .meet .kept .1 .1 .1 .0
 
 place-way-same-length-11 : (t : ℕ) → place-way-lts.Need-same-length-11 (
   next-word-reads.Asked,
@@ -711,7 +710,7 @@ place-way-returns-4 t c =
     let nw = w .before .before .before .before .next-word in
     let e = v .before .before .before .before .enum-told2 in
     let u = c .before .placed .given in
-    P.placed-new (a .n) (a .slots) (now (a .ranks)) (a .left) (a .at) (a .used) (a .o) (now (a .table)) (now (a .scratch)) (start .pre .1 .0) (w .meet .result) (w .meet .last .1 .1 .1 .0) (w .meet .last .1 .1 .1 .1 .0) (e .given .1) (w .meet .ensures) (nw .result) (u .0 .0) (v .place-state .result) (v .place-state .last .1 .1 .1 .1 .0) (v .place-state .last .1 .1 .1 .1 .1 .0) (nw .ensures) (u .1) (v .place-state .ensures)
+    P.placed-new (a .n) (a .slots) (now (a .ranks)) (a .at) (a .used) (a .o) (now (a .table)) (now (a .scratch)) (start .pre .1 .0) (start .pre .1 .1 .1) (w .meet .result) (w .meet .last .1 .1 .1 .0) (w .meet .last .1 .1 .1 .1 .0) (e .given .1) (w .meet .ensures) (nw .result) (u .0 .0) (v .place-state .result) (v .place-state .last .1 .1 .1 .0) (v .place-state .last .1 .1 .1 .1 .0) (nw .ensures) (u .1) (v .place-state .ensures)
 
 pub +place-state+place-way-spec : {M : Type 1} → statement M
 +place-state+place-way-spec = close μ-place-state μ-place-way (λ t. place-state-lts.spec (
@@ -722,30 +721,28 @@ pub +place-state+place-way-spec : {M : Type 1} → statement M
 )
     (place-state-at t)
     place-state.Post
-    (place-state-returns t)
     (place-state-asks-requires t)
     (place-state-same-length t)
-    (place-state-returns-2 t)
-    (place-state-sub-less t)
+    (place-state-returns t)
     (place-state-place-way-requires t)
     (place-state-enum-known-holds t)
     (place-state-enum-told t)
     (place-state-same-length-2 t)
     (place-state-same-length-3 t)
     (place-state-same-length-4 t)
-    (place-state-returns-3 t)
+    (place-state-returns-2 t)
     (place-state-place-way-requires-2 t)
     (place-state-enum-known-fails t)
     (place-state-enum-told-2 t)
     (place-state-same-length-5 t)
     (place-state-same-length-6 t)
     (place-state-same-length-7 t)
-    (place-state-returns-4 t)
+    (place-state-returns-3 t)
     (place-state-place-way-requires-3 t)
     (place-state-same-length-8 t)
     (place-state-same-length-9 t)
     (place-state-same-length-10 t)
-    (place-state-returns-5 t))
+    (place-state-returns-4 t))
     λ t. place-way-lts.spec (
       next-word-reads.Asked,
       next-word-reads.Learnt,

@@ -4,11 +4,10 @@ use Prim.Native.Nat.{ℕ, _<_, _*_}
 use mathlib.Core.Path.{_≡_, sym, _∙_, subst}
 use mathlib.Core.List.{List}
 use native.Mathlib.Omega.{arith}
-use lib.ListN.{replicate, length}
+use lib.ListN.{replicate}
 use lib.Seq.{length-front}
 use denote.Ref.{now}
 use Rattle.slots.specs.Words.{filterSlot}
-use Rattle.slots.specs.Slots.{startWords}
 use Rattle.builder.specs.Promises.{Stored}
 use Rattle.builder.specs.Starting as S
 use Rattle.builder.proofs.Meeting.{front-long, front-fits, front-is, front-whole}
@@ -24,44 +23,48 @@ words = replicate 1024 0
 some-slot : (n : ℕ) → (n ≡ 0 → ⊥) → 0 < n
 some-slot n h = omega arith
 
+-- What is stored are the start's words.
+begun : (n slots : ℕ) (ranks t s c c' t₁ s₁ : List ℕ) → c ≡ c' → Stored n slots ranks 0 t s c t₁ s₁ → Stored n slots ranks 0 t s c' t₁ s₁
+begun n slots ranks t s c c' t₁ s₁ e st = subst (λ (w : List ℕ). Stored n slots ranks 0 t s w t₁ s₁) e st
+
 returns : tie.Need-returns
 returns c =
     let s = c .before .before .before .before .before in
     let a = s .args in
-    S.started-none (a .n) (a .slots) (now (a .ranks)) (a .tests) (startWords (a .n) (now (a .ranks)) (now (a .list))) (now (a .table)) (now (a .scratch)) (c .if1 .taken)
+    S.started-none (a .n) (a .slots) (now (a .ranks)) (now (a .list)) (now (a .table)) (now (a .scratch)) (s .pre) (c .if1 .taken)
 
 mul-width : tie.Need-mul-width
 mul-width c =
     let s = c .before .before .before .before .before in
     let a = s .args in
-    omega (arith, A.start-few (a .n) (a .slots) (a .tests) (now (a .ranks)) (now (a .list)) (now (a .table)) (now (a .scratch)) (s .pre))
+    omega (arith, A.start-few (a .n) (a .slots) (now (a .ranks)) (now (a .list)) (now (a .table)) (now (a .scratch)) (s .pre))
 
 array-borrow-prefix-words : tie.Need-array-borrow-prefix-words
 array-borrow-prefix-words c =
     let s = c .before .before .before .before .before in
     let a = s .args in
-    omega (arith, A.start-few (a .n) (a .slots) (a .tests) (now (a .ranks)) (now (a .list)) (now (a .table)) (now (a .scratch)) (s .pre))
+    omega (arith, A.start-few (a .n) (a .slots) (now (a .ranks)) (now (a .list)) (now (a .table)) (now (a .scratch)) (s .pre))
 
 slice-aggregate-start-into : tie.Need-slice-aggregate-start-into
 slice-aggregate-start-into c =
     let s = c .before .before .before .before .before .before in
     let a = s .args in
-    front-long (a .n) words (A.start-roomy (a .n) (a .slots) (a .tests) (now (a .ranks)) (now (a .list)) (now (a .table)) (now (a .scratch)) (s .pre))
+    front-long (a .n) words (A.start-roomy (a .n) (a .slots) (now (a .ranks)) (now (a .list)) (now (a .table)) (now (a .scratch)) (s .pre))
 
 start-into-requires : tie.Need-start-into-requires
 start-into-requires c κs =
     let s = c .before .before .before .before .before .before in
     let a = s .args in
-    let roomy = A.start-roomy (a .n) (a .slots) (a .tests) (now (a .ranks)) (now (a .list)) (now (a .table)) (now (a .scratch)) (s .pre) in
-    let ranked = s .pre .ranked in
-    (A.start-asks (a .n) (a .slots) (a .tests) (now (a .ranks)) (now (a .list)) (now (a .table)) (now (a .scratch)) (s .pre) _ (sym (front-long (a .n) words roomy)), omega arith)
+    let roomy = A.start-roomy (a .n) (a .slots) (now (a .ranks)) (now (a .list)) (now (a .table)) (now (a .scratch)) (s .pre) in
+    let ranked = A.start-ranked (a .n) (a .slots) (now (a .ranks)) (now (a .list)) (now (a .table)) (now (a .scratch)) (s .pre) in
+    (A.start-asks (a .n) (a .slots) (now (a .ranks)) (now (a .list)) (now (a .table)) (now (a .scratch)) (s .pre) _ (sym (front-long (a .n) words roomy)), omega arith)
 
 array-share-prefix-words : tie.Need-array-share-prefix-words
 array-share-prefix-words c =
     let p = c .before .before .before in
     let s = p .before .before .before .before .before .before .before in
     let a = s .args in
-    let roomy = A.start-roomy (a .n) (a .slots) (a .tests) (now (a .ranks)) (now (a .list)) (now (a .table)) (now (a .scratch)) (s .pre) in
+    let roomy = A.start-roomy (a .n) (a .slots) (now (a .ranks)) (now (a .list)) (now (a .table)) (now (a .scratch)) (s .pre) in
     front-fits (a .n) words roomy (p .start-into .last .1 .0) (p .start-into .kept .1 .0)
 
 slice-aggregate-store : tie.Need-slice-aggregate-store
@@ -69,7 +72,7 @@ slice-aggregate-store c =
     let p = c .before .before .before .before in
     let s = p .before .before .before .before .before .before .before in
     let a = s .args in
-    let roomy = A.start-roomy (a .n) (a .slots) (a .tests) (now (a .ranks)) (now (a .list)) (now (a .table)) (now (a .scratch)) (s .pre) in
+    let roomy = A.start-roomy (a .n) (a .slots) (now (a .ranks)) (now (a .list)) (now (a .table)) (now (a .scratch)) (s .pre) in
     sym (front-whole (a .n) words roomy (p .start-into .last .1 .0) (p .start-into .kept .1 .0))
 
 store-requires : tie.Need-store-requires
@@ -77,8 +80,8 @@ store-requires c κs =
     let p = c .before .before .before .before in
     let s = p .before .before .before .before .before .before .before in
     let a = s .args in
-    let roomy = A.start-roomy (a .n) (a .slots) (a .tests) (now (a .ranks)) (now (a .list)) (now (a .table)) (now (a .scratch)) (s .pre) in
-    A.store-asks (a .n) (a .slots) (a .tests) (now (a .ranks)) (now (a .list)) (now (a .table)) (now (a .scratch)) (s .pre) _ (front-whole (a .n) words roomy (p .start-into .last .1 .0) (p .start-into .kept .1 .0)) (some-slot (a .slots) (p .before .before .if1 .left))
+    let roomy = A.start-roomy (a .n) (a .slots) (now (a .ranks)) (now (a .list)) (now (a .table)) (now (a .scratch)) (s .pre) in
+    A.store-asks (a .n) (a .slots) (now (a .ranks)) (now (a .list)) (now (a .table)) (now (a .scratch)) (s .pre) _ (front-whole (a .n) words roomy (p .start-into .last .1 .0) (p .start-into .kept .1 .0)) (some-slot (a .slots) (p .before .before .if1 .left))
 
 slice-aggregate-place-state : tie.Need-slice-aggregate-place-state
 slice-aggregate-place-state c =
@@ -92,8 +95,16 @@ place-state-requires c κs =
     let p = v .before .before .before .before .before in
     let s = p .before .before .before .before .before .before .before in
     let a = s .args in
-    let roomy = A.start-roomy (a .n) (a .slots) (a .tests) (now (a .ranks)) (now (a .list)) (now (a .table)) (now (a .scratch)) (s .pre) in
-    (A.ready-start (a .n) (a .slots) (a .tests) (now (a .ranks)) (now (a .list)) (now (a .table)) (now (a .scratch)) (s .pre) _ _ (some-slot (a .slots) (p .before .before .if1 .left)) (v .store .kept .1 .1 .1 .0) (v .store .kept .1 .1 .1 .1 .0), front-fits (a .n) words roomy (p .start-into .last .1 .0) (p .start-into .kept .1 .0))
+    let roomy = A.start-roomy (a .n) (a .slots) (now (a .ranks)) (now (a .list)) (now (a .table)) (now (a .scratch)) (s .pre) in
+    let made = front-is (a .n) words roomy (p .start-into .last .1 .0) (p .start-into .kept .1 .0) ∙ p .start-into .ensures in
+    let some = some-slot (a .slots) (p .before .before .if1 .left) in (
+      A.ready-start (a .n) (a .slots) (now (a .ranks)) (now (a .list)) (now (a .table)) (now (a .scratch)) (s .pre) _ _ some (v .store .kept .1 .1 .1 .0) (v .store .kept .1 .1 .1 .1 .0),
+      (
+        front-fits (a .n) words roomy (p .start-into .last .1 .0) (p .start-into .kept .1 .0),
+        S.good-begin (a .n) (a .slots) (now (a .ranks)) (now (a .list)) (now (a .table)) (now (a .scratch)) (s .pre) some (v .store .last .1 .1 .1 .0) (v .store .last .1 .1 .1 .1 .0)
+            (begun _ _ _ _ _ _ _ _ _ made (v .store .ensures)),
+      ),
+    )
 
 same-length : tie.Need-same-length
 same-length c = search needs
@@ -108,14 +119,13 @@ returns-2 c =
     let p = v .before .before .before .before .before in
     let s = p .before .before .before .before .before .before .before in
     let a = s .args in
-    let roomy = A.start-roomy (a .n) (a .slots) (a .tests) (now (a .ranks)) (now (a .list)) (now (a .table)) (now (a .scratch)) (s .pre) in
+    let roomy = A.start-roomy (a .n) (a .slots) (now (a .ranks)) (now (a .list)) (now (a .table)) (now (a .scratch)) (s .pre) in
     let made = front-is (a .n) words roomy (p .start-into .last .1 .0) (p .start-into .kept .1 .0) ∙ p .start-into .ensures in
     let t₁ = v .store .last .1 .1 .1 .0 in
     let s₁ = v .store .last .1 .1 .1 .1 .0 in
-    S.started (a .n) (a .slots) (now (a .ranks)) (a .tests) (startWords (a .n) (now (a .ranks)) (now (a .list))) (now (a .table)) (now (a .scratch))
-    (some-slot (a .slots) (p .before .before .if1 .left)) t₁ s₁
-    (subst (λ (w : List ℕ). Stored (a .n) (a .slots) (now (a .ranks)) 0 (now (a .table)) (now (a .scratch)) w t₁ s₁) made (v .store .ensures))
-    (x .place-state .result) (x .place-state .last .1 .1 .1 .1 .0) (x .place-state .last .1 .1 .1 .1 .1 .0) (x .place-state .ensures)
+    S.started (a .n) (a .slots) (now (a .ranks)) (now (a .list)) (now (a .table)) (now (a .scratch)) (s .pre)
+    (some-slot (a .slots) (p .before .before .if1 .left)) t₁ s₁ (begun _ _ _ _ _ _ _ _ _ made (v .store .ensures))
+    (x .place-state .result) (x .place-state .last .1 .1 .1 .0) (x .place-state .last .1 .1 .1 .1 .0) (x .place-state .ensures)
 
 pub place-start-spec : {M : Type 1} → statement M
 place-start-spec =
