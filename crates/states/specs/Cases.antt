@@ -22,8 +22,8 @@ use Rattle.sets.specs.Sets.{setOf, tally, some}
 use Rattle.lists.specs.Filters.{Filter, testOf, itemOf, itemsOf, filterOf, filtersFrom, filtersOf}
 use Rattle.lists.specs.Ranks.{outranks, above, allHold, fires, matches}
 use Rattle.states.specs.States.{State, nothing, isHeld, isOut, keep, join, cut, cutStanding, beaten, closedFrom, closed, allLeft, start, questionOf, stepBy, sure, sureSet, outSet}
-use Rattle.states.specs.Runs.{wayOf, advanceAt, advance, run, askedAt, askedIn}
-use Rattle.states.specs.Measure.{asks, run-past, asked-past}
+use Rattle.states.specs.Runs.{wayOf, advanceAt, advance, run, askedAt, askedIn, asks}
+use Rattle.states.specs.Measure.{run-past, asked-past}
 use Rattle.states.specs.Paths.{after, matchSet}
 
 unfoldable pub sampleList : ℕ → ℕ → ℕ → ℕ → ℕ → ℕ → List Filter
