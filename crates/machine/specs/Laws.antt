@@ -1,20 +1,20 @@
 -- The machine of a well-formed list is lawful, so its states are met each once, and they are exactly those that outcomes reach from the start.
 --   Good fs s   a state of the list fs: a standing for each filter, every remaining test well formed, and it fits a slot
-use Prim.Native.Nat.{suc, _*_, _<_}
+use Prim.Native.Nat.{ℕ, suc, _*_, _<_}
 use native.Mathlib.Omega.{arith}
 use mathlib.Core.Path.{_≡_, refl, _∙_}
-use mathlib.Core.Bool.{true, false≢true}
+use mathlib.Core.Bool.{true}
 use mathlib.Core.List.{List}
 use lib.ListN.{length, getD}
 use Rattle.residue.specs.declared.Outcome.{Outcome}
 use Rattle.lists.specs.Accepted.{itemWords, wellFilters}
-use Rattle.lists.specs.Filters.{Item, Filter, testsIn}
+use Rattle.lists.specs.Filters.{Filter, testsIn}
 use Rattle.states.specs.States.{State, Question, nothing, ask, questionOf, start, step}
-use Rattle.states.specs.Laws.{wellState, well-start, well-step, length-start, length-step, start-remaining, step-falls, step-keeps, step-ask, same-state-eq, same-state-refl}
+use Rattle.states.specs.Laws.{wellState, well-start, well-step, length-start, length-step, start-remaining, next-falls, step-keeps, same-state-eq, same-state-refl}
 use Rattle.states.specs.States.{remaining}
 use Rattle.automaton.specs.Machines.{meets, placeOf}
 use Rattle.automaton.specs.Lawful.{Lawful, Reached, Distinct}
-use Rattle.automaton.specs.Reaching.{all-each-good, all-good, all-closed, all-start, all-reached, reached-all, all-distinct, all-place-state, all-place-start}
+use Rattle.automaton.specs.Reaching.{all-each-good, all-good, all-closed, all-start, all-reached, reached-all, all-distinct, all-getD-meets, all-place-state, all-place-start}
 use Rattle.automaton.specs.Lists.{Each}
 use Rattle.automaton.specs.Places.{place-below}
 use Rattle.automaton.specs.Records.{records-long}
@@ -32,14 +32,6 @@ unfolding questionWords itemWords
 question-four nothing = refl
 question-four (ask q) = refl
 
-pub asked-question : (s : State) → asks (questionOf s) ≡ true → (q : Item) × (questionOf s ≡ ask q)
-unfolding asks
-asked-question s e = go (questionOf s) refl e
-  where
-    go : (a : Question) → questionOf s ≡ a → asks a ≡ true → (q : Item) × (questionOf s ≡ ask q)
-    go nothing r e = absurd (false≢true e)
-    go (ask q) r e = (q, r)
-
 module _ (fs : List Filter) where
   pub good-step : (o : Outcome) (s : State) → Good fs s → Good fs (step fs o s)
   good-step o s g =
@@ -50,18 +42,13 @@ module _ (fs : List Filter) where
   pub good-start : wellFilters fs ≡ true → Good fs (start fs)
   good-start h = record { well = well-start fs h; each = length-start fs; fits = fits-start fs h }
 
-  box-falls : (o : Outcome) (s : State) → Good fs s → asks (questionOf s) ≡ true → remaining (step fs o s) < remaining s
-  box-falls o s g e =
-      let a = asked-question s e in
-      rw (step-ask fs o (a .0) s (a .1)) (step-falls fs o (a .0) s (g .well) (a .1))
-
   pub box-lawful : Lawful (boxOf fs) (Good fs) remaining
   box-lawful =
       record {
         same-eq = λ a b g e. same-state-eq a b e;
         same-refl = λ a g. same-state-refl a;
         good-step = λ o s g e. good-step o s g;
-        falls = λ o s g e. box-falls o s g e;
+        falls = λ o s g e. next-falls fs o s (g .well) e;
         question-long = λ s g. question-four (questionOf s);
         sets-long = λ s g. refl;
       }
@@ -86,6 +73,10 @@ module _ (fs : List Filter) (h : wellFilters fs ≡ true) where
   pub state-good : (s : State) → meets (boxOf fs) (statesOf fs) s ≡ true → Good fs s
   unfolding statesOf
   state-good = all-good (box-lawful fs) (suc (testsIn fs)) (start fs) (good-start fs h) enough
+
+  pub state-met : (n : ℕ) (d : State) → n < length (statesOf fs) → meets (boxOf fs) (statesOf fs) (getD (statesOf fs) n d) ≡ true
+  unfolding statesOf
+  state-met = all-getD-meets (box-lawful fs) (suc (testsIn fs)) (start fs) (good-start fs h) enough
 
   pub states-closed : (o : Outcome) (s : State) → meets (boxOf fs) (statesOf fs) s ≡ true → asks (questionOf s) ≡ true → meets (boxOf fs) (statesOf fs) (step fs o s) ≡ true
   unfolding statesOf

@@ -21,7 +21,7 @@ use Rattle.lists.specs.Filters.{Item, Filter}
 use Rattle.states.specs.States.{State, ask, questionOf, stepBy}
 use Rattle.states.specs.Runs.{wayOf, run, follow}
 use Rattle.states.specs.Standings.{factBy}
-use Rattle.states.specs.Choices.{leftIn, Leads, Free, leads-keep, path-free}
+use Rattle.states.specs.Choices.{leftIn, Leads, Free, leads-keeps, path-free}
 use Rattle.states.specs.Keeps.{question-left, run-path, follow-leads}
 use Rattle.states.specs.Every.{everyState, leaves, every-left, every-step}
 use Rattle.states.specs.Well.{wellState, item-test, item-on, item-leaves, well-left}
@@ -85,7 +85,7 @@ pub left-once :
     leftIn q t ≡ true → ⊥
 left-once fs o q s h e {n} {t} p again =
     let hq = well-left s q h e in
-    let fresh = leads-keep (λ (x : State). everyState (freshItem q) x ≡ true) (λ p o′ x _ f. fresh-step q fs o′ p x f) p (asked-fresh fs o q s hq h) in
+    let fresh = leads-keeps (λ (x : State). everyState (freshItem q) x ≡ true) (λ p o′ x _ f. fresh-step q fs o′ p x f) p (asked-fresh fs o q s hq h) in
     fresh-other q hq (every-left (freshItem q) t q fresh again)
 
 -- So document 01's question is not asked again, whatever outcomes follow.
@@ -93,11 +93,11 @@ pub never-twice :
     (fs : List Filter) (o : Outcome) (os : List Outcome) (q : Item) (s : State) → wellState s ≡ true → questionOf s ≡ ask q →
     questionOf (follow fs os (stepBy fs o q s)) ≡ ask q → ⊥
 never-twice fs o os q s h e again =
-    left-once fs o q s h (question-left s q e) (follow-leads fs os (stepBy fs o q s) .1) (question-left _ q again)
+    left-once fs o q s h (question-left q s e) (follow-leads fs os (stepBy fs o q s) .1) (question-left q _ again)
 
 -- The same for the path of a frame.
 pub run-never-twice :
     (fs : List Filter) (r : ℕ → Reading) (n : ℕ) (q : Item) (s : State) → wellState s ≡ true → questionOf s ≡ ask q →
     questionOf (run fs r n (stepBy fs (wayOf r q) q s)) ≡ ask q → ⊥
 run-never-twice fs r n q s h e again =
-    left-once fs (wayOf r q) q s h (question-left s q e) (path-free fs r (run-path fs r n (stepBy fs (wayOf r q) q s))) (question-left _ q again)
+    left-once fs (wayOf r q) q s h (question-left q s e) (path-free fs r (run-path fs r n (stepBy fs (wayOf r q) q s))) (question-left q _ again)

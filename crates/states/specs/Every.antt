@@ -65,7 +65,7 @@ module _ (p : Item → Bool) where
       e
 
   pub every-question : (s : State) (q : Item) → everyState p s ≡ true → questionOf s ≡ ask q → p q ≡ true
-  every-question s q h e = every-left s q h (question-left s q e)
+  every-question s q h e = every-left s q h (question-left q s e)
 
   -- ---- closing
 

@@ -7,7 +7,7 @@
 use Prim.Native.Nat.{ℕ, zero, suc, _≤_}
 use mathlib.Core.Path.{_≡_, refl, sym, ap, _∙_, subst}
 use mathlib.Core.Logic.{_⊎_, inl, inr, ⊎-elim}
-use mathlib.Core.Bool.{true, false, _||_, _&&_, false≢true}
+use mathlib.Core.Bool.{true, false, _&&_, false≢true}
 use mathlib.Core.List.{List, [], _∷_}
 use native.Mathlib.Nat.{not-suc-le-zero, le-of-suc-le-suc, suc-inj}
 use native.Mathlib.Numerals.{add-one}
@@ -17,8 +17,8 @@ use Rattle.residue.specs.declared.Outcome.{Outcome}
 use Rattle.lists.specs.Filters.{Item, Filter}
 use Rattle.states.specs.States.{out, left, State, Question, nothing, ask, questionOf, stepBy, stepAt, step}
 use Rattle.states.specs.Runs.{wayOf, advanceAt, advance, run, askedAt, askedIn, follow, asks, asksAll}
-use Rattle.states.specs.Same.{sameItem, same-item-refl}
-use Rattle.states.specs.Choices.{among, leftIn, Leads, arrived, asking, Chosen, Picked, Answered, Path, Free, leads-keep, leads-more, path-keeps}
+use Rattle.states.specs.Same.{same-item-refl}
+use Rattle.states.specs.Choices.{among, leftIn, Leads, leads-none, leads-more, Chosen, Picked, OfFrame, Path, Free, leads-keeps, path-of, path-keeps}
 
 pub none-asked : (q : Item) → nothing ≡ ask q → ⊥
 none-asked q z = let y : true ≡ false = cc in false≢true (sym y)
@@ -30,22 +30,22 @@ by-question P s f g = go (questionOf s) refl
     go nothing e = f e
     go (ask q) e = g q e
 
-pub question-left : (s : State) (q : Item) → questionOf s ≡ ask q → leftIn q s ≡ true
+pub question-left : (q : Item) (s : State) → Picked q s → Chosen q s
 unfolding questionOf leftIn among
-question-left [] q e = absurd (none-asked q e)
-question-left (out ∷ s) q e = question-left s q e
-question-left (left [] ∷ s) q e = question-left s q e
-question-left (left (t ∷ ts) ∷ s) q e =
+question-left q [] e = absurd (none-asked q e)
+question-left q (out ∷ s) e = question-left q s e
+question-left q (left [] ∷ s) e = question-left q s e
+question-left q (left (t ∷ ts) ∷ s) e =
     let z : t ≡ q = cc in
-    subst (λ (u : Item). (sameItem u t || among u ts || leftIn u s) ≡ true) z (rw (same-item-refl t))
+    subst (λ (u : Item). leftIn u (left (t ∷ ts) ∷ s) ≡ true) z (rw (same-item-refl t))
 
 -- A state that has a remaining test has a question.
-pub left-asks : (s : State) (q : Item) → leftIn q s ≡ true → questionOf s ≡ nothing → ⊥
+pub left-asks : (q : Item) (s : State) → Chosen q s → questionOf s ≡ nothing → ⊥
 unfolding questionOf leftIn among
-left-asks [] q h e = false≢true h
-left-asks (out ∷ s) q h e = left-asks s q h e
-left-asks (left [] ∷ s) q h e = left-asks s q h e
-left-asks (left (t ∷ ts) ∷ s) q h e = none-asked t (sym e)
+left-asks q [] h e = false≢true h
+left-asks q (out ∷ s) h e = left-asks q s h e
+left-asks q (left [] ∷ s) h e = left-asks q s h e
+left-asks q (left (t ∷ ts) ∷ s) h e = none-asked t (sym e)
 
 -- ---- a state that asks, and one that does not
 
@@ -74,29 +74,29 @@ module _ (fs : List Filter) (r : ℕ → Reading) where
 
   -- ---- the path of a frame
 
-  pub run-picks : (n : ℕ) (s : State) → Leads fs (Answered r Picked) (askedIn fs r n s) s (run fs r n s)
+  pub run-picks : (n : ℕ) (s : State) → Leads fs (OfFrame r Picked) (askedIn fs r n s) s (run fs r n s)
   unfolding run askedIn askedAt advance advanceAt
-  run-picks zero s = arrived
+  run-picks zero s = leads-none
   run-picks (suc n) s = go (run-picks n) (questionOf s) refl
     where
-      go : ((x : State) → Leads fs (Answered r Picked) (askedIn fs r n x) x (run fs r n x)) → (a : Question) → questionOf s ≡ a →
-          Leads fs (Answered r Picked) (askedAt a (askedIn fs r n (advanceAt fs r a s))) s (run fs r n (advanceAt fs r a s))
-      go on nothing e = rw (run-stays n s e) arrived
-      go on (ask q) e = rw add-one (asking q (wayOf r q) (e, refl) (on (stepBy fs (wayOf r q) q s)))
+      go : ((x : State) → Leads fs (OfFrame r Picked) (askedIn fs r n x) x (run fs r n x)) → (a : Question) → questionOf s ≡ a →
+          Leads fs (OfFrame r Picked) (askedAt a (askedIn fs r n (advanceAt fs r a s))) s (run fs r n (advanceAt fs r a s))
+      go on nothing e = rw (run-stays n s e) leads-none
+      go on (ask q) e = rw add-one (leads-more q (wayOf r q) (e, refl) (on (stepBy fs (wayOf r q) q s)))
 
   pub picks-run :
-      (n : ℕ) {k : ℕ} {s t : State} → Leads fs (Answered r Picked) k s t → k ≤ n → (k ≡ n) ⊎ (questionOf t ≡ nothing) → (run fs r n s ≡ t) × (askedIn fs r n s ≡ k)
+      (n : ℕ) {k : ℕ} {s t : State} → Leads fs (OfFrame r Picked) k s t → k ≤ n → (k ≡ n) ⊎ (questionOf t ≡ nothing) → (run fs r n s ≡ t) × (askedIn fs r n s ≡ k)
   unfolding run askedIn
-  picks-run n {s = s} arrived l (inl e) = rw (← e) (refl, refl)
-  picks-run n {s = s} arrived l (inr e) = (run-stays n s e, asked-none n s e)
-  picks-run zero (asking q o a p) l e = absurd (not-suc-le-zero l)
-  picks-run (suc n) (asking {n = k} {s = s} {t = t} q o a p) l e =
+  picks-run n {s = s} leads-none l (inl e) = rw (← e) (refl, refl)
+  picks-run n {s = s} leads-none l (inr e) = (run-stays n s e, asked-none n s e)
+  picks-run zero (leads-more q o a p) l e = absurd (not-suc-le-zero l)
+  picks-run (suc n) (leads-more {n = k} {s = s} {t = t} q o a p) l e =
       let next : advance fs r s ≡ stepBy fs o q s = advance-ask q s (a .0) ∙ ap (λ (x : Outcome). stepBy fs x q s) (sym (a .1)) in
       let rest = picks-run n p (le-of-suc-le-suc l) (⊎-elim (λ (z : suc k ≡ suc n). inl (suc-inj z)) (λ (z : questionOf t ≡ nothing). inr z) e) in
       (ap (run fs r n) next ∙ rest .0, asked-ask n q s (a .0) ∙ ap suc (ap (askedIn fs r n) next ∙ rest .1))
 
   pub run-path : (n : ℕ) (s : State) → Path fs r (askedIn fs r n s) s (run fs r n s)
-  run-path n s = leads-more (λ q o x a. (question-left x q (a .0), a .1)) (run-picks n s)
+  run-path n s = path-of fs r question-left (run-picks n s)
 
   -- The allowance is used up, or there is nothing left to ask.
   pub run-ended : (n : ℕ) (s : State) → (askedIn fs r n s ≡ n) ⊎ (questionOf (run fs r n s) ≡ nothing)
@@ -123,17 +123,17 @@ module _ (fs : List Filter) where
   -- As many questions as outcomes, where each answers one.
   pub follow-leads : (os : List Outcome) (s : State) → (k : ℕ) × Leads fs Free k s (follow fs os s) × (asksAll fs os s ≡ true → k ≡ length os)
   unfolding follow step stepAt asksAll asks
-  follow-leads [] s = (zero, arrived, λ _. refl)
+  follow-leads [] s = (zero, leads-none, λ _. refl)
   follow-leads (o ∷ os) s = go (follow-leads os) (questionOf s) refl
     where
       go : ((x : State) → (k : ℕ) × Leads fs Free k x (follow fs os x) × (asksAll fs os x ≡ true → k ≡ length os)) → (a : Question) → questionOf s ≡ a →
           (k : ℕ) × Leads fs Free k s (follow fs os (stepAt fs o a s)) × ((asks a && asksAll fs os (stepAt fs o a s)) ≡ true → k ≡ suc (length os))
       go on nothing e = let p = on s in (p .0, p .1, λ h. absurd (false≢true h))
-      go on (ask q) e = let p = on (stepBy fs o q s) in (suc (p .0), asking q o (question-left s q e) (p .1), λ h. ap suc (p .2 h))
+      go on (ask q) e = let p = on (stepBy fs o q s) in (suc (p .0), leads-more q o (question-left q s e) (p .1), λ h. ap suc (p .2 h))
 
   module _ (P : State → Type 0) (kept : (o : Outcome) (q : Item) (s : State) → Chosen q s → P s → P (stepBy fs o q s)) where
     pub follow-keeps : (os : List Outcome) (s : State) → P s → P (follow fs os s)
-    follow-keeps os s p = leads-keep P (λ q o x a z. kept o q x a z) (follow-leads os s .1) p
+    follow-keeps os s p = leads-keeps P (λ q o x a z. kept o q x a z) (follow-leads os s .1) p
 
     pub step-keeps : (o : Outcome) (s : State) → P s → P (step fs o s)
     unfolding follow

@@ -25,7 +25,7 @@ use Rattle.states.specs.States.{Standing, out, left, State, keep, join, 
 use Rattle.states.specs.Runs.{advance, run, askedIn, asks, asksAll}
 use Rattle.states.specs.Standings.{factBy}
 use Rattle.states.specs.Same.{sameItem, same-item-eq}
-use Rattle.states.specs.Choices.{among, leftIn, Leads, arrived, asking, Free, either, path-free}
+use Rattle.states.specs.Choices.{among, leftIn, Leads, leads-none, leads-more, Free, either, path-free}
 use Rattle.states.specs.Well.{wellState, item-test, well-start, well-left, well-step}
 use Rattle.states.specs.Keeps.{none-asked, by-question, question-left, step-ask, asked-none, asked-ask, run-picks, picks-run, run-path, run-ended, follow-leads}
 
@@ -147,7 +147,7 @@ left-falls fs o q s h e =
 
 pub step-falls :
     (fs : List Filter) (o : Outcome) (q : Item) (s : State) → wellState s ≡ true → questionOf s ≡ ask q → remaining (stepBy fs o q s) < remaining s
-step-falls fs o q s h e = left-falls fs o q s h (question-left s q e)
+step-falls fs o q s h e = left-falls fs o q s h (question-left q s e)
 
 pub next-falls :
     (fs : List Filter) (o : Outcome) (s : State) → wellState s ≡ true → asks (questionOf s) ≡ true → remaining (step fs o s) < remaining s
@@ -160,13 +160,13 @@ next-falls fs o s h a = go (questionOf s) refl a
 
 -- ---- a path
 
-pub leads-fall : {fs : List Filter} {n : ℕ} {s t : State} → Leads fs Free n s t → wellState s ≡ true → n + remaining t ≤ remaining s
-leads-fall arrived h = omega arith
-leads-fall {fs} (asking {s = s} q o e p) h = omega (arith, left-falls fs o q s h e, leads-fall p (well-step fs o q s h))
+pub leads-falls : {fs : List Filter} {n : ℕ} {s t : State} → Leads fs Free n s t → wellState s ≡ true → n + remaining t ≤ remaining s
+leads-falls leads-none h = omega arith
+leads-falls {fs} (leads-more {s = s} q o e p) h = omega (arith, left-falls fs o q s h e, leads-falls p (well-step fs o q s h))
 
 -- From the start no path is longer than the list has tests.
 pub leads-tests : (fs : List Filter) → wellFilters fs ≡ true → {n : ℕ} {s : State} → Leads fs Free n (start fs) s → n + remaining s ≤ testsIn fs
-leads-tests fs h p = omega (arith, leads-fall p (well-start fs h), start-remaining fs)
+leads-tests fs h p = omega (arith, leads-falls p (well-start fs h), start-remaining fs)
 
 pub path-tests : (fs : List Filter) (os : List Outcome) → wellFilters fs ≡ true → asksAll fs os (start fs) ≡ true → length os ≤ testsIn fs
 path-tests fs os h a =
@@ -177,7 +177,7 @@ path-tests fs os h a =
 
 module _ (fs : List Filter) (r : ℕ → Reading) where
   pub asked-remaining : (n : ℕ) (s : State) → wellState s ≡ true → askedIn fs r n s + remaining (run fs r n s) ≤ remaining s
-  asked-remaining n s h = leads-fall (path-free fs r (run-path fs r n s)) h
+  asked-remaining n s h = leads-falls (path-free fs r (run-path fs r n s)) h
 
   pub run-ends : (n : ℕ) (s : State) → wellState s ≡ true → remaining s ≤ n → questionOf (run fs r n s) ≡ nothing
   run-ends n s h l =

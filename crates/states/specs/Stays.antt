@@ -12,7 +12,7 @@ use Rattle.lists.specs.Filters.{Item, Filter}
 use Rattle.states.specs.States.{Standing, out, left, State, standing, isHeld, isOut, cut, cutStanding, beaten, closed, allLeft, start, stepBy, sure}
 use Rattle.states.specs.Runs.{run, askedIn}
 use Rattle.states.specs.Standings.{factBy, divided, step-closes, standing-divided, standing-closed, beaten-where, where-beaten, length-step, length-start}
-use Rattle.states.specs.Choices.{Leads, Free, leads-keep, path-free}
+use Rattle.states.specs.Choices.{Leads, Free, leads-keeps, path-free}
 use Rattle.states.specs.Keeps.{run-path, run-further}
 use Rattle.states.specs.Sure.{clash, not-held-out, Shut, sure-held, sure-above, held-sure}
 
@@ -91,16 +91,16 @@ sure-stays fs o q s i e =
 
 module _ (fs : List Filter) {n : ℕ} {s t : State} (p : Leads fs Free n s t) where
   pub leads-shut : Shut fs s → Shut fs t
-  leads-shut c = leads-keep (Shut fs) (λ q o x _ _. shut-step fs o q x) p c
+  leads-shut c = leads-keeps (Shut fs) (λ q o x _ _. shut-step fs o q x) p c
 
   pub leads-sure : (i : ℕ) → sure fs s i ≡ true → sure fs t i ≡ true
-  leads-sure i e = leads-keep (λ (x : State). sure fs x i ≡ true) (λ q o x _ z. sure-stays fs o q x i z) p e
+  leads-sure i e = leads-keeps (λ (x : State). sure fs x i ≡ true) (λ q o x _ z. sure-stays fs o q x i z) p e
 
   pub leads-out : (i : ℕ) → isOut (standing s i) ≡ true → isOut (standing t i) ≡ true
-  leads-out i e = leads-keep (λ (x : State). isOut (standing x i) ≡ true) (λ q o x _ z. out-stays fs o q x i z) p e
+  leads-out i e = leads-keeps (λ (x : State). isOut (standing x i) ≡ true) (λ q o x _ z. out-stays fs o q x i z) p e
 
   pub leads-length : length t ≡ length s
-  leads-length = leads-keep (λ (x : State). length x ≡ length s) (λ q o x _ e. length-step fs o q x ∙ e) p refl
+  leads-length = leads-keeps (λ (x : State). length x ≡ length s) (λ q o x _ e. length-step fs o q x ∙ e) p refl
 
 -- ---- along the path of a frame by document 01's questions
 

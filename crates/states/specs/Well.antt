@@ -23,7 +23,7 @@ use Rattle.lists.specs.Laws.{well-items}
 use Rattle.states.specs.States.{State, allLeft, start, ask, questionOf, stepBy}
 use Rattle.states.specs.Runs.{run, follow}
 use Rattle.states.specs.Standings.{factBy}
-use Rattle.states.specs.Choices.{leftIn, Leads, Free, leads-keep, path-free}
+use Rattle.states.specs.Choices.{leftIn, Leads, Free, leads-keeps, path-free}
 use Rattle.states.specs.Keeps.{run-path, follow-leads}
 use Rattle.states.specs.Every.{everyItem, everyStanding, everyState, leaves, every-left, every-question, every-closed, every-step}
 
@@ -90,7 +90,7 @@ well-step fs o q s h = every-step wellItem wellItem fs o q s (λ t g e. item-lea
 -- ---- paths
 
 pub well-leads : {fs : List Filter} {n : ℕ} {s t : State} → Leads fs Free n s t → wellState s ≡ true → wellState t ≡ true
-well-leads {fs} p h = leads-keep (λ (x : State). wellState x ≡ true) (λ q o x _ g. well-step fs o q x g) p h
+well-leads {fs} p h = leads-keeps (λ (x : State). wellState x ≡ true) (λ q o x _ g. well-step fs o q x g) p h
 
 pub well-follow : (fs : List Filter) (os : List Outcome) (s : State) → wellState s ≡ true → wellState (follow fs os s) ≡ true
 well-follow fs os s h = well-leads (follow-leads fs os s .1) h
