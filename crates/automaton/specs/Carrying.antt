@@ -1,7 +1,8 @@
--- An encoding that respects same, asks and step carries the states met across, and with the words of a state their records and how they are placed.
---   Carried M N Good enc  enc takes the good states of M to states of N that compare, ask, step and read alike
+-- A machine carried to another: an encoding that respects asks and step carries what outcomes reach, though it may take two states to one; one that respects same too carries the states met, their records and how they are placed.
+--   Carried M N Good enc      enc takes the good states of M to states of N that ask, step and read alike
+--   SameCarried M N Good enc  they compare alike
 use Prim.Native.Nat.{ℕ, zero, suc, _+_, _<_}
-use mathlib.Core.Path.{_≡_, refl, sym, ap, _∙_}
+use mathlib.Core.Path.{_≡_, refl, sym, ap, _∙_, subst}
 use mathlib.Core.Bool.{Bool, true, false, cond, _||_}
 use mathlib.Core.List.{List, [], _∷_, _++_, map, map-append}
 use lib.Dec.{leb}
@@ -10,34 +11,61 @@ use Rattle.residue.specs.declared.Outcome.{Outcome}
 use Rattle.residue.specs.declared.Outcome.the-variants.{Holds, Fails, Absent}
 use Rattle.automaton.specs.Machines.{Machine, meets, placeOf, visit, visitWays, nextsOf, recordOf, flat, recordsOf}
 use Rattle.automaton.specs.Lists.{each-nil, each-cons, each-head, each-tail, each-append, Each}
-use Rattle.automaton.specs.Lawful.{Lawful}
+use Rattle.automaton.specs.Lawful.{Lawful, Reached, start, further}
 use Rattle.automaton.specs.Visited.{visit-old, visit-final, visit-asking, Visits, old, final, asking, visits-exist, visits-visit}
-use Rattle.automaton.specs.Reaching.{visit-good, visits-good}
+use Rattle.automaton.specs.Reaching.{reached-good, visit-good, visits-good}
 use Rattle.automaton.specs.Placing.{full, room, placeAll}
 use Rattle.automaton.specs.Placed.{memory, Fit, placed-visits}
 
 pub record Carried (M N : Machine) (Good : M .State → Type 0) (enc : M .State → N .State) : Type 0 where
-  pub same-carried : (a b : M .State) → Good a → Good b → N .same (enc a) (enc b) ≡ M .same a b
   pub asks-carried : (s : M .State) → Good s → N .asks (enc s) ≡ M .asks s
   pub step-carried : (o : Outcome) (s : M .State) → Good s → M .asks s ≡ true → N .step o (enc s) ≡ enc (M .step o s)
   pub question-carried : (s : M .State) → Good s → N .question (enc s) ≡ M .question s
   pub sets-carried : (s : M .State) → Good s → N .sets (enc s) ≡ M .sets s
 
+pub record SameCarried (M N : Machine) (Good : M .State → Type 0) (enc : M .State → N .State) : Type 0 where
+  pub same-carried : (a b : M .State) → Good a → Good b → N .same (enc a) (enc b) ≡ M .same a b
+
+-- ---- what outcomes reach
+
 module _ {M N : Machine} {Good : M .State → Type 0} {left : M .State → ℕ} {enc : M .State → N .State}
     (law : Lawful M Good left) (carried : Carried M N Good enc) where
+  pub reached-carried : {s t : M .State} → Good s → Reached M s t → Reached N (enc s) (enc t)
+  reached-carried g start = start
+  reached-carried {s} g (further {t = t} o way asks) =
+      let good = reached-good law g way in
+      subst (Reached N (enc s)) (carried .step-carried o t good asks) (further o (reached-carried g way) (carried .asks-carried t good ∙ asks))
+
+  -- And nothing else is reached.
+  pub carried-reached : {s : M .State} {u : N .State} → Good s → Reached N (enc s) u → (t : M .State) × Reached M s t × (u ≡ enc t)
+  carried-reached {s} g start = (s, start, refl)
+  carried-reached g (further {t = u} o way asks) =
+      let back = carried-reached g way in
+      let t = back .0 in
+      let good = reached-good law g (back .1) in
+      let question : M .asks t ≡ true = sym (carried .asks-carried t good) ∙ ap (N .asks) (sym (back .2)) ∙ asks in
+      (M .step o t, further o (back .1) question, ap (N .step o) (back .2) ∙ carried .step-carried o t good question)
+
+-- ---- which states are met
+
+module _ {M N : Machine} {Good : M .State → Type 0} {enc : M .State → N .State} (same : SameCarried M N Good enc) where
   pub meets-carried : (met : List (M .State)) (s : M .State) → Each Good met → Good s → meets N (map enc met) (enc s) ≡ meets M met s
   unfolding meets
   meets-carried [] s good g = refl
   meets-carried (x ∷ met) s good g =
-      rw (carried .same-carried x s (each-head good) g) (ap (λ (b : Bool). M .same x s || b) (meets-carried met s (each-tail good) g))
+      rw (same .same-carried x s (each-head good) g) (ap (λ (b : Bool). M .same x s || b) (meets-carried met s (each-tail good) g))
 
   pub place-carried : (met : List (M .State)) (s : M .State) → Each Good met → Good s → placeOf N (map enc met) (enc s) ≡ placeOf M met s
   unfolding placeOf
   place-carried [] s good g = refl
   place-carried (x ∷ met) s good g =
-      rw (carried .same-carried x s (each-head good) g)
+      rw (same .same-carried x s (each-head good) g)
       (ap (λ (n : ℕ). cond (M .same x s) 0 (n + 1)) (place-carried met s (each-tail good) g))
 
+-- ---- the states met, their records and how they are placed
+
+module _ {M N : Machine} {Good : M .State → Type 0} {left : M .State → ℕ} {enc : M .State → N .State}
+    (law : Lawful M Good left) (carried : Carried M N Good enc) (same : SameCarried M N Good enc) where
   ways-carried : (f : ℕ)
       → ((met : List (M .State)) (s : M .State) → Each Good met → Good s → visit N f (map enc met) (enc s) ≡ map enc (visit M f met s))
       → (met : List (M .State)) (s : M .State) → Each Good met → Good s → M .asks s ≡ true
@@ -69,12 +97,12 @@ module _ {M N : Machine} {Good : M .State → Type 0} {left : M .State → ℕ} 
       go : ((met : List (M .State)) (s : M .State) → Each Good met → Good s → visit N f (map enc met) (enc s) ≡ map enc (visit M f met s))
           → (b q : Bool) → meets M met s ≡ b → M .asks s ≡ q → visit N (suc f) (map enc met) (enc s) ≡ map enc (visit M (suc f) met s)
       go below true q e eq =
-          visit-old N f (map enc met) (enc s) (meets-carried met s good g ∙ e) ∙ sym (ap (map enc) (visit-old M f met s e))
+          visit-old N f (map enc met) (enc s) (meets-carried same met s good g ∙ e) ∙ sym (ap (map enc) (visit-old M f met s e))
       go below false false e eq =
-          visit-final N f (map enc met) (enc s) (meets-carried met s good g ∙ e) (carried .asks-carried s g ∙ eq)
+          visit-final N f (map enc met) (enc s) (meets-carried same met s good g ∙ e) (carried .asks-carried s g ∙ eq)
           ∙ longer ∙ sym (ap (map enc) (visit-final M f met s e eq))
       go below false true e eq =
-          visit-asking N f (map enc met) (enc s) (meets-carried met s good g ∙ e) (carried .asks-carried s g ∙ eq)
+          visit-asking N f (map enc met) (enc s) (meets-carried same met s good g ∙ e) (carried .asks-carried s g ∙ eq)
           ∙ ap (λ (l : List (N .State)). visitWays N (visit N f) l (enc s)) longer
           ∙ ways-carried f below (met ++ s ∷ []) s (each-append met (s ∷ []) good (each-cons g (each-nil Good))) g eq
           ∙ sym (ap (map enc) (visit-asking M f met s e eq))
@@ -93,9 +121,9 @@ module _ {M N : Machine} {Good : M .State → Type 0} {left : M .State → ℕ} 
             carried .step-carried Holds s g q,
             carried .step-carried Fails s g q,
             carried .step-carried Absent s g q,
-            place-carried met (M .step Holds s) good (law .good-step Holds s g q),
-            place-carried met (M .step Fails s) good (law .good-step Fails s g q),
-            place-carried met (M .step Absent s) good (law .good-step Absent s g q),
+            place-carried same met (M .step Holds s) good (law .good-step Holds s g q),
+            place-carried same met (M .step Fails s) good (law .good-step Fails s g q),
+            place-carried same met (M .step Absent s) good (law .good-step Absent s g q),
           )
 
   pub record-carried : (met : List (M .State)) (s : M .State) → Each Good met → Good s → recordOf N (map enc met) (enc s) ≡ recordOf M met s
@@ -117,7 +145,7 @@ module _ {M N : Machine} {Good : M .State → Type 0} {left : M .State → ℕ} 
       → Visits N (suc f) (map enc met) (enc s) (map enc (s ∷ (a ++ b ++ c)))
   three-carried met a b c s {f} good g e q v w z =
       rw (map-append enc (a ++ b) c, map-append enc a b)
-      (asking {f = f} {a = map enc a} {b = map enc b} {c = map enc c} (meets-carried met s good g ∙ e) (carried .asks-carried s g ∙ q)
+      (asking {f = f} {a = map enc a} {b = map enc b} {c = map enc c} (meets-carried same met s good g ∙ e) (carried .asks-carried s g ∙ q)
       (rw (carried .step-carried Holds s g q) (rw (map-append enc met (s ∷ [])) at v))
       (rw (carried .step-carried Fails s g q) (rw (map-append enc (met ++ s ∷ []) a, map-append enc met (s ∷ [])) at w))
       (rw (carried .step-carried Absent s g q)
@@ -125,8 +153,8 @@ module _ {M N : Machine} {Good : M .State → Type 0} {left : M .State → ℕ} 
 
   pub visits-carried : {f : ℕ} {met news : List (M .State)} {s : M .State} → Visits M f met s news → Each Good met → Good s
       → Visits N f (map enc met) (enc s) (map enc news)
-  visits-carried {met} {s} (old e) good g = old (meets-carried met s good g ∙ e)
-  visits-carried {met} {s} (final e q) good g = final (meets-carried met s good g ∙ e) (carried .asks-carried s g ∙ q)
+  visits-carried {met} {s} (old e) good g = old (meets-carried same met s good g ∙ e)
+  visits-carried {met} {s} (final e q) good g = final (meets-carried same met s good g ∙ e) (carried .asks-carried s g ∙ q)
   visits-carried {met} {s} (asking {a = a} {b = b} {c = c} e q v w z) good g =
       let good1 = each-append met (s ∷ []) good (each-cons g (each-nil Good)) in
       let good2 = visits-good law v good1 (law .good-step Holds s g q) in
@@ -140,7 +168,7 @@ module _ {M N : Machine} {Good : M .State → Type 0} {left : M .State → ℕ} 
   each-fit-carried (x ∷ l) good =
       let g = each-head good in
       each-cons
-      (record { itself = carried .same-carried x x g g ∙ law .same-refl x g; four = ap length (carried .question-carried x g) ∙ law .question-long x g })
+      (record { itself = same .same-carried x x g g ∙ law .same-refl x g; four = ap length (carried .question-carried x g) ∙ law .question-long x g })
       (each-fit-carried l (each-tail good))
 
   -- The builder on encoded states.

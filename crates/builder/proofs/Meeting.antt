@@ -9,8 +9,9 @@ use lib.Arith.{lt-of-le-ne}
 use lib.ListN.{length, take, drop, length-append, length-drop}
 use lib.Seq.{take-at, length-take-le}
 use Rattle.residue.specs.declared.Outcome.{Outcome}
+use Rattle.lists.specs.Filters.{itemOf}
 use Rattle.slots.specs.Words.{filterSlot, slotWords}
-use Rattle.slots.specs.Slots.{stepWords}
+use Rattle.slots.specs.Slots.{questionIn, stepQuestion, stepWords}
 use Rattle.slots.specs.Steps.{Stepped}
 use Rattle.machine.specs.Box.{slotsIn}
 use Rattle.automaton.specs.Machines.{meets, placeOf}
@@ -22,6 +23,13 @@ use Rattle.builder.specs.declared.Found.{Found}
 use Rattle.builder.specs.declared.Found.the-variants as F
 use Rattle.builder.specs.declared.Met.the-variants as M
 use Rattle.builder.proofs.Finding.{slot-part}
+
+-- ---- a step by the state's own question
+
+pub step-own : (n : ℕ) (ranks : List ℕ) (o : Outcome) (w question done : List ℕ)
+    → question ≡ questionIn n w → done ≡ stepQuestion n ranks o (itemOf question) w → done ≡ stepWords n ranks o w
+unfolding stepWords
+step-own n ranks o w question done q e = e ∙ ap (λ (x : List ℕ). stepQuestion n ranks o (itemOf x) w) q
 
 -- ---- the candidate's words p, in front of the words lent for it
 

@@ -8,6 +8,7 @@ ghost use Prim.Native.Nat.{ℕ, _*_, _≤_};
 ghost use lib.ListN.{length};
 ghost use Rattle.slots.specs.Words.{filterSlot};
 ghost use Rattle.slots.specs.Slots.{stepWords, asksIn};
+ghost use Rattle.slots.specs.Steps.{Stepped};
 ghost use Rattle.builder.specs.Memory.{slotAt, statesIn, foundIn};
 ghost use Rattle.builder.specs.Promises.{Ready, Held, Search, Store, Stored, Meeting};
 
@@ -45,6 +46,15 @@ pub fn store(
     slots::write_record(candidate, n, ranks, &mut table[9 * used..]);
 }
 
+// The state after a state's own question came to an outcome.
+fn step_into(src: &[u32], dst: &mut [u32], n: usize, ranks: &[u32], outcome: Outcome)
+    requires { ⌜ Stepped n (now ranks) (now src) (now dst) ⌝ }
+    ensures { λ _. ⌜ now (dst .exit) ≡ stepWords n (now (ranks .entry)) outcome (now (src .entry)) ⌝ }
+{
+    let asked = slots::question_of(src, n);
+    slots::step_by(src, dst, n, ranks, asked, outcome);
+}
+
 // Meets the state that an outcome leads to from the state in slot `at`. It is made outside the slots: where all are used an old state is still recognised.
 // Its words are lent, since the recursion comes through here and an array would stand in each of its frames; what is left in them is read by nobody, so nothing is said of it.
 pub fn meet(
@@ -64,7 +74,7 @@ pub fn meet(
 {
     let width = 32 * n;
     let from = 1024 * at;
-    slots::step_into(
+    step_into(
         &scratch[from..from + width],
         &mut words[..width],
         n,

@@ -29,7 +29,7 @@ use Rattle.machine.specs.Box.{boxOf, statesOf}
 use Rattle.machine.specs.Laws.{states-distinct, states-reached, reached-states}
 use Rattle.matcher.specs.Walk.{Shown, walk}
 use Rattle.builder.specs.Outcome.{Left, scratchWords, outcome}
-use Rattle.demands.specs.Follows.{shownAt}
+use Rattle.labels.specs.Labels.{shownAt}
 use Rattle.demands.specs.Builds.{build-full, build-fits}
 use Rattle.demands.specs.Settled.{Legal, exact, all-done, all-matches, open-so, sure-so, out-so, sure-kept, out-kept, none-left, asked-few}
 use Rattle.demands.specs.Paths.{once}

@@ -1,5 +1,4 @@
-pub mod Walks
-pub mod Follows
+pub mod Labelled
 pub mod Builds
 pub mod Settled
 pub mod Paths

@@ -21,7 +21,7 @@ use Rattle.builder.specs.Outcome as O
 use Rattle.matcher.specs.declared.Answer.{Answer}
 use Rattle.matcher.specs.declared.Answer.the-variants as A
 use Rattle.matcher.specs.Walk as W
-use Rattle.demands.specs.Follows.{shownAt}
+use Rattle.labels.specs.Labels.{shownAt}
 use Rattle.demands.specs.Builds.{build-success}
 use Rattle.demands.specs.Settled.{Legal, walked, exact, all-done, all-matches, open-so, sure-so, out-so, sure-kept, out-kept, none-left, asked-few}
 

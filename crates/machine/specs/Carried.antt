@@ -1,5 +1,5 @@
 -- On the words of slots the machine of a list does what it does on states.
---   slots-carried   the words of a good state compare, ask, step and read as the state does
+--   slots-carried, slots-same   the words of a good state ask, step and read as the state does, and compare alike
 --   whole           what placing a list's states in so many slots comes to
 --   list-placed     so the builder, placing words, places the list's states with their records, or is full where they are more than the slots
 use Prim.Native.Nat.{ℕ, _≤_}
@@ -22,7 +22,7 @@ use Rattle.slots.specs.Laws.{same-written, asks-written, next-written, question
 use Rattle.automaton.specs.Machines.{recordOf}
 use Rattle.automaton.specs.Placing.{Placed, full, room, placeAll}
 use Rattle.automaton.specs.Placed.{memory}
-use Rattle.automaton.specs.Carrying.{Carried, placed-carried}
+use Rattle.automaton.specs.Carrying.{Carried, SameCarried, placed-carried}
 use Rattle.machine.specs.Box.{boxOf, statesOf, slotsIn}
 use Rattle.machine.specs.Laws.{Good, good-start, box-lawful, enough}
 
@@ -39,16 +39,18 @@ module _ (fs : List Filter) (few : length fs ≤ maxFilters) where
   pub slots-carried : Carried (boxOf fs) (slotsIn (length fs) (rankSets fs)) (Good fs) written
   slots-carried =
       record {
-        same-carried = λ a b g h. same-written a b (g .each ∙ sym (h .each)) (g .fits) (h .fits);
         asks-carried = λ s g. asks-written (length fs) s (g .each) (g .fits);
         step-carried = λ o s g e. next-written fs s (g .each) few (g .fits) o e;
         question-carried = λ s g. question-written (length fs) s (g .each) (g .fits);
         sets-carried = λ s g. ap₂ (λ (x y : ℕ). x ∷ y ∷ []) (sure-written fs s (g .each) few (g .fits)) (out-written fs s (g .each) few (g .fits));
       }
 
+  pub slots-same : SameCarried (boxOf fs) (slotsIn (length fs) (rankSets fs)) (Good fs) written
+  slots-same = record { same-carried = λ a b g h. same-written a b (g .each ∙ sym (h .each)) (g .fits) (h .fits) }
+
   slots-placed : wellFilters fs ≡ true → (slots : ℕ) → PlacesStates fs (length fs) slots (testsIn fs) (written (start fs))
   unfolding statesOf
-  slots-placed h slots = placed-carried (box-lawful fs) slots-carried slots (testsIn fs) (start fs) (good-start fs h) (enough fs h)
+  slots-placed h slots = placed-carried (box-lawful fs) slots-carried slots-same slots (testsIn fs) (start fs) (good-start fs h) (enough fs h)
 
 -- The same for the words of an accepted list.
 pub list-placed :

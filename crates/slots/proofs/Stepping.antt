@@ -12,16 +12,15 @@ use Rattle.residue.specs.declared.Outcome.{Outcome}
 use Rattle.fields.specs.Widths.{full}
 use Rattle.sets.specs.Laws.{tally-bound}
 use Rattle.lists.specs.Filters.{maxFilters, testOf, itemOf}
-use Rattle.slots.specs.Slots.{outSetIn, sureSetIn, closedWords, questionIn, cutWords, stepQuestion, stepWords, freshWords}
+use Rattle.slots.specs.Slots.{outSetIn, sureSetIn, closedWords, questionIn, cutWords, stepQuestion, freshWords}
 use Rattle.slots.specs.Steps.{freshLength}
 
 pub step-is : (n : ℕ) (ranks : List ℕ) (o : Outcome) (w : List ℕ) (k f m v g : ℕ) (t : Test) (c : Fact) (cut done : List ℕ)
-    → k ∷ f ∷ m ∷ v ∷ [] ≡ questionIn n w → t ≡ testOf k m v → g ≡ full f → c ≡ factOf g o t → cut ≡ cutWords n f c w → done ≡ closedWords n ranks cut
-    → done ≡ stepWords n ranks o w
-unfolding stepWords stepQuestion itemOf
-step-is n ranks o w k f m v g t c cut done q e h i j z =
-    z ∙ ap (closedWords n ranks) (j ∙ ap (λ (x : Fact). cutWords n f x w) (i ∙ ap₂ (λ (x : ℕ) (y : Test). factOf x o y) h e)) ∙
-    ap (λ (x : List ℕ). stepQuestion n ranks o (itemOf x) w) q
+    → t ≡ testOf k m v → g ≡ full f → c ≡ factOf g o t → cut ≡ cutWords n f c w → done ≡ closedWords n ranks cut
+    → done ≡ stepQuestion n ranks o (itemOf (k ∷ f ∷ m ∷ v ∷ [])) w
+unfolding stepQuestion itemOf
+step-is n ranks o w k f m v g t c cut done e h i j z =
+    z ∙ ap (closedWords n ranks) (j ∙ ap (λ (x : Fact). cutWords n f x w) (i ∙ ap₂ (λ (x : ℕ) (y : Test). factOf x o y) h e))
 
 pub out-bound : (n : ℕ) (w : List ℕ) (o : ℕ) → n ≤ maxFilters → o ≡ outSetIn n w → o < 2 ^ maxFilters
 unfolding outSetIn

@@ -1,7 +1,7 @@
 -- What the code does with words is what the definitions of states say: on the words of a state s of the list fs that fits its slot, each function on words gives the words, or the set, of its counterpart.
 --   questionWords a   the words of a question; zeros where nothing is asked
 -- Encoding: fitsSlot, fits-start, fits-step, fits-next, length-written, read-written, written-injective.
--- Sets: held-written, out-written, sure-written. Steps: closed-written, cut-written, step-written, next-written, start-written, start-accepted.
+-- Sets: held-written, out-written, sure-written. Steps: closed-written, cut-written, by-written, step-written, next-written, start-written, start-accepted.
 -- Questions: question-written, asks-written, none-written. Records: fresh-written, fresh-nine, length-question. Sameness: same-words-eq, same-words-refl, same-written.
 use Prim.Native.Nat.{ℕ, zero, suc, _+_, _*_, _-_, _^_, _≤_, _<_}
 use mathlib.Core.Path.{_≡_, refl, sym, ap, ap₂, _∙_}
@@ -30,7 +30,7 @@ use Rattle.lists.specs.Refusals.{listed}
 use Rattle.lists.specs.declared.Listed.the-variants.{Accepted}
 use Rattle.lists.specs.Laws.{accepted-count, accepted-well, item-round, getD-rankSets, rankSet-in, rankSet-clear}
 use Rattle.states.specs.States.{Standing, out, left, State, standing, isHeld, isOut, cutStanding, beaten, closedFrom, closed, allLeft, start, Question, nothing, ask, questionOf, stepBy, stepAt, step, sure, sureSet, outSet}
-use Rattle.states.specs.Measure.{asks}
+use Rattle.states.specs.Runs.{asks}
 use Rattle.states.specs.Same.{sameState, same-state-eq, same-state-refl}
 use Rattle.slots.specs.Words.{filterSlot, outMark, itemsWords, outWords, writtenFilter, written, readFilter}
 use Rattle.slots.specs.Slots.{headOf, heldSet, outSetIn, sureSetIn, closedIn, closedWords, hasTest, fourWords, questionIn, asksIn, cutWords, stepQuestion, stepWords, startWords, freshWords, sameWords}
@@ -164,14 +164,19 @@ module _ (m : ℕ) (s : State) (l : length s ≡ m) (fit : fitsSlot s ≡ true) 
 -- ---- a step, the start, a record
 
 module _ (fs : List Filter) (s : State) (l : length s ≡ length fs) (few : length fs ≤ maxFilters) (fit : fitsSlot s ≡ true) where
-  pub step-written : (o : Outcome) (q : Item) → questionOf s ≡ ask q → stepWords (length fs) (rankSets fs) o (written s) ≡ written (stepBy fs o q s)
-  unfolding stepWords stepQuestion stepBy
-  step-written o q e =
+  -- By any question.
+  pub by-written : (o : Outcome) (q : Item) → stepQuestion (length fs) (rankSets fs) o q (written s) ≡ written (stepBy fs o q s)
+  unfolding stepQuestion stepBy
+  by-written o q =
       let f = q .field in
       let k = factOf (full (q .field)) o (q .test) in
-      ap (λ (t : Item). stepQuestion (length fs) (rankSets fs) o t (written s)) (ap itemOf (ask-written (length fs) s l fit q e) ∙ item-round q) ∙
       ap (closedWords (length fs) (rankSets fs)) (cut-written (length fs) s l fit f k) ∙
       closed-written fs (map (cutStanding f k) s) (length-map s (cutStanding f k) ∙ l) few (fits-cut f k s fit)
+
+  pub step-written : (o : Outcome) (q : Item) → questionOf s ≡ ask q → stepWords (length fs) (rankSets fs) o (written s) ≡ written (stepBy fs o q s)
+  unfolding stepWords
+  step-written o q e =
+      ap (λ (t : Item). stepQuestion (length fs) (rankSets fs) o t (written s)) (ap itemOf (ask-written (length fs) s l fit q e) ∙ item-round q) ∙ by-written o q
 
   next-at : (o : Outcome) (a : Question) → questionOf s ≡ a → asks a ≡ true → stepWords (length fs) (rankSets fs) o (written s) ≡ written (stepAt fs o a s)
   unfolding stepAt asks

@@ -5,6 +5,7 @@
 --   closedWords n ranks w  each filter that ranks below a held one made out
 --   questionIn n w         the four words of the first remaining test of the first filter that has any; zeros where none has
 --   cutWords n f k w       what the fact k about field f leaves of each filter
+--   stepQuestion n ranks o q w   the slot after the question q came to o
 --   stepWords n ranks o w  the slot after the question of w came to o
 --   startWords n ranks ws  the start of the list ws
 --   sameWords a b          the same words

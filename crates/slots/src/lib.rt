@@ -5,10 +5,10 @@ ghost use mathlib.Core.Bool.{cond};
 ghost use mathlib.Core.List.{_∷_, [], _++_, map};
 ghost use Prim.Native.Nat.{_+_, _*_, _≤_};
 ghost use lib.ListN.{length, drop, getD};
-ghost use Rattle.lists.specs.Filters.{filtersOf};
+ghost use Rattle.lists.specs.Filters.{filtersOf, itemOf};
 ghost use Rattle.states.specs.States.{allLeft};
 ghost use Rattle.slots.specs.Words.{filterSlot, outWords, written, writtenFilter};
-ghost use Rattle.slots.specs.Slots.{heldSet, outSetIn, sureSetIn, closedIn, closedWords, questionIn, cutWords, stepWords, startWords, freshWords, sameWords};
+ghost use Rattle.slots.specs.Slots.{heldSet, outSetIn, sureSetIn, closedIn, closedWords, questionIn, cutWords, stepQuestion, startWords, freshWords, sameWords};
 ghost use Rattle.slots.specs.Steps.{freshLength, markedSet, State, Ranked, Both, Stepped, Recorded, Starts};
 use filter::FILTER_WORDS;
 use filter::OUT;
@@ -150,12 +150,18 @@ pub fn question_of(w: &[u32], n: usize) -> Question
     }
 }
 
-// The state after the question of src came to an outcome.
-pub fn step_into(src: &[u32], dst: &mut [u32], n: usize, ranks: &[u32], outcome: Outcome)
+// The state after a question, of src or any other, came to an outcome.
+pub fn step_by(
+    src: &[u32],
+    dst: &mut [u32],
+    n: usize,
+    ranks: &[u32],
+    asked: Question,
+    outcome: Outcome,
+)
     requires { ⌜ Stepped n (now ranks) (now src) (now dst) ⌝ }
-    ensures { λ _. ⌜ now (dst .exit) ≡ stepWords n (now (ranks .entry)) outcome (now (src .entry)) ⌝ }
+    ensures { λ _. ⌜ now (dst .exit) ≡ stepQuestion n (now (ranks .entry)) outcome (itemOf (asked .kind ∷ asked .field ∷ asked .mask ∷ asked .value ∷ [])) (now (src .entry)) ⌝ }
 {
-    let asked = question_of(src, n);
     let field = asked.field;
     let test = filter::test_of(asked.kind, asked.mask, asked.value);
     let fact = residue::fact_of(fields::full_of(field), outcome, test);

@@ -1,0 +1,4 @@
+pub mod Labels
+pub mod Walks
+pub mod Courses
+pub mod Truths

@@ -1,0 +1,1 @@
+// Tables whose records can be given states, and what a walk through one tells; no code.
