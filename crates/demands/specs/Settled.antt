@@ -17,8 +17,8 @@ use Rattle.residue.specs.declared.Reading.{Reading}
 use Rattle.residue.specs.declared.Reading.the-variants as R
 use Rattle.fields.specs.Widths.{full}
 use Rattle.fields.specs.Fields.{field}
-use Rattle.fields.specs.Bounds.{Bytes}
-use Rattle.fields.specs.LawsValues.{value-in-width}
+use Rattle.fields.specs.Bytes.{Bytes}
+use Rattle.fields.specs.laws.Values.{value-in-width}
 use Rattle.sets.specs.Sets.{member}
 use Rattle.lists.specs.Accepted.{wellFilters}
 use Rattle.lists.specs.Filters.{Filter, filtersOf, testsIn}

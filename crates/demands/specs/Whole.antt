@@ -8,7 +8,7 @@ use mathlib.Core.Bool.{true, false}
 use mathlib.Core.List.{List}
 use lib.ListN.{length}
 use Rattle.fields.specs.Fields.{field}
-use Rattle.fields.specs.Bounds.{Bytes}
+use Rattle.fields.specs.Bytes.{Bytes}
 use Rattle.sets.specs.Sets.{member}
 use Rattle.lists.specs.Filters.{filtersOf, testsIn}
 use Rattle.lists.specs.Ranks.{matches}
