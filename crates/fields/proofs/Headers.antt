@@ -18,12 +18,12 @@ use Rattle.fields.specs.Ethernet.{ipStart, etherType, ethernet}
 use Rattle.fields.specs.Ipv4.{internet, transportStart, transportEnd, transport}
 use Rattle.fields.specs.Fields.{puts}
 use Rattle.fields.specs.Header.{Header, presentSet}
-use Rattle.fields.specs.inner.Parts.{Filled, Spans, typeIn, packetIn, packetPuts}
+use Rattle.fields.specs.inner.Parts.{Added, Spans, typeIn, packetIn, packetPuts}
 use Rattle.fields.specs.laws.Ipv4.{internet-lengths}
 
-pub header : {f : List ℕ} {p : ℕ} {ps : List Put} {old new : List ℕ} {r : ℕ} → puts f p ≡ ps → Filled ps 0 old r new → Header f p old new r
+pub from-puts : {f : List ℕ} {p : ℕ} {ps : List Put} {old new : List ℕ} {r : ℕ} → puts f p ≡ ps → Added ps 0 old r new → Header f p old new r
 unfolding presentSet
-header e filled = record { set = rw e (filled .set); words = rw e (filled .words) }
+from-puts e added = record { set = rw e (added .set); words = rw e (added .words) }
 
 -- What the arms of a reading and of a packet tell.
 pub is-type : (f : List ℕ) {n : ℕ} → typeIn f ≡ Value n → (ethernet f ≡ true) × (etherType f ≡ n)
@@ -39,28 +39,28 @@ no-type f =
     (λ h e. h)
 
 -- A packet and its transport part.
-pub record Packed (f : List ℕ) (start end : ℕ) : Type 0 where
+pub record PacketAt (f : List ℕ) (start end : ℕ) : Type 0 where
   pub has : internet f ≡ true
-  pub part : transport f ≡ part f start end
+  pub same : transport f ≡ part f start end
   pub spans : Spans f start end
 
-packed : (f : List ℕ) → internet f ≡ true → Packed f (transportStart f) (transportEnd f)
+packet-at : (f : List ℕ) → internet f ≡ true → PacketAt f (transportStart f) (transportEnd f)
 unfolding transport transportStart transportEnd
-packed f has =
+packet-at f has =
     let known = internet-lengths f has in
     record {
       has = has;
-      part = refl;
+      same = refl;
       spans = record { whole = known .whole; order = omega arith; inside = known .inside };
     }
 
-pub is-packet : (f : List ℕ) {start end : ℕ} → packetIn f ≡ Whole start end → Packed f start end
+pub is-packet : (f : List ℕ) {start end : ℕ} → packetIn f ≡ Whole start end → PacketAt f start end
 is-packet f {start} {end} =
-    by-cond (λ (x : Packet). x ≡ Whole start end → Packed f start end) (internet f)
+    by-cond (λ (x : Packet). x ≡ Whole start end → PacketAt f start end) (internet f)
     (λ h e.
     let starts : transportStart f ≡ start = cc in
     let ends : transportEnd f ≡ end = cc in
-    rw (starts, ends) at (packed f h))
+    rw (starts, ends) at (packet-at f h))
     (λ h e. let z : _≡_ {A = ℕ} 0 1 = cc in absurd (omega arith))
 
 pub no-packet : (f : List ℕ) → packetIn f ≡ Nothing → internet f ≡ false
@@ -87,6 +87,6 @@ module _ (f : List ℕ) (p : ℕ) where
   unfolding puts
   puts-ethernet e i = simp (e, i)
 
-  pub puts-internet : {a e : ℕ} → ethernet f ≡ true → Packed f a e → puts f p ≡ (13, p) ∷ (0, etherType f) ∷ [] ++ packetPuts f a e
+  pub puts-internet : {a e : ℕ} → ethernet f ≡ true → PacketAt f a e → puts f p ≡ (13, p) ∷ (0, etherType f) ∷ [] ++ packetPuts f a e
   unfolding puts
-  puts-internet h known = simp (h, known .has, known .part)
+  puts-internet h known = simp (h, known .has, known .same)

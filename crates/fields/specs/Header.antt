@@ -1,5 +1,5 @@
 -- A frame's fields read once: a bit set of the fields present (field i is bit i) and a word for each field.
---   joined ps s        the set s with the numbers of the puts in it
+--   noted ps s         the set s with the numbers of the puts in it
 --   filled ps old      the words old with the puts made
 --   presentSet f p     the set of the fields that the frame f has
 --   readingAt s vs n   field n by such a set and such words; absent above the last number
@@ -18,16 +18,16 @@ use Rattle.fields.specs.Widths.{fieldCount}
 use Rattle.fields.specs.Puts.{Put}
 use Rattle.fields.specs.Fields.{puts}
 
-unfoldable pub joined : List Put → ℕ → ℕ
-joined [] s = s
-joined ((n, x) ∷ ps) s = joined ps (bitOr s (2 ^ n))
+unfoldable pub noted : List Put → ℕ → ℕ
+noted [] s = s
+noted ((n, x) ∷ ps) s = noted ps (bitOr s (2 ^ n))
 
 unfoldable pub filled : List Put → List ℕ → List ℕ
 filled [] old = old
 filled ((n, x) ∷ ps) old = filled ps (set old n x)
 
 unfoldable pub presentSet : List ℕ → ℕ → ℕ
-presentSet f p = joined (puts f p) 0
+presentSet f p = noted (puts f p) 0
 
 unfoldable pub readingAt : ℕ → List ℕ → ℕ → Reading
 readingAt s vs n = cond (ltb n fieldCount && member n s) (Value (getD vs n 0)) Absent

@@ -3,7 +3,7 @@ ghost use mathlib.Core.Path.{_≡_};
 ghost use Prim.Native.Nat.{_≤_};
 ghost use lib.ListN.{length};
 ghost use Rattle.fields.specs.Ipv4.{internetPuts};
-ghost use Rattle.fields.specs.inner.Parts.{Filled, Spans, packetIn, packetPuts};
+ghost use Rattle.fields.specs.inner.Parts.{Added, Spans, packetIn, packetPuts};
 use crate::Values;
 use crate::bytes::byte_at;
 use crate::bytes::four_at;
@@ -77,7 +77,7 @@ pub fn packet_in(frame: &[u8]) -> Packet
 // The header's own fields.
 fn fill_header(frame: &[u8], present: u32, values: &mut Values) -> u32
     requires { ⌜ 34 ≤ length (now frame) ⌝ }
-    ensures { λ r. ⌜ Filled (internetPuts (now (frame .entry))) present (now (values .entry)) r (now (values .exit)) ⌝ }
+    ensures { λ r. ⌜ Added (internetPuts (now (frame .entry))) present (now (values .entry)) r (now (values .exit)) ⌝ }
 {
     let mut set = put(TYPE_OF_SERVICE, byte_at(frame, 15), present, values);
     set = put(TOTAL_LENGTH, two_at(frame, TOTAL_AT), set, values);
@@ -91,7 +91,7 @@ fn fill_header(frame: &[u8], present: u32, values: &mut Values) -> u32
 // The fields of a packet: the header's, and those of the transport part, which is read as a part of the frame.
 pub fn fill(frame: &[u8], start: usize, end: usize, present: u32, values: &mut Values) -> u32
     requires { ⌜ Spans (now frame) start end ⌝ }
-    ensures { λ r. ⌜ Filled (packetPuts (now (frame .entry)) start end) present (now (values .entry)) r (now (values .exit)) ⌝ }
+    ensures { λ r. ⌜ Added (packetPuts (now (frame .entry)) start end) present (now (values .entry)) r (now (values .exit)) ⌝ }
 {
     let protocol = byte_at(frame, PROTOCOL_AT);
     let set = fill_header(frame, present, values);

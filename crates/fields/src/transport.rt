@@ -1,6 +1,6 @@
 // The transport part (RFC 768, 792, 793).
 ghost use Rattle.fields.specs.Transport.{tcp, udp, icmp, transportPuts};
-ghost use Rattle.fields.specs.inner.Parts.{Filled};
+ghost use Rattle.fields.specs.inner.Parts.{Added};
 use crate::Values;
 use crate::bytes::byte_at;
 use crate::bytes::two_at;
@@ -25,7 +25,7 @@ const ICMP_CODE: u32 = 12;
 
 // The ports, which TCP and UDP share: the source port too is there only if both are whole.
 fn udp(part: &[u8], present: u32, values: &mut Values) -> u32
-    ensures { λ r. ⌜ Filled (transportPuts udp (now (part .entry))) present (now (values .entry)) r (now (values .exit)) ⌝ }
+    ensures { λ r. ⌜ Added (transportPuts udp (now (part .entry))) present (now (values .entry)) r (now (values .exit)) ⌝ }
 {
     if part.len() < 4 {
         return present;
@@ -36,7 +36,7 @@ fn udp(part: &[u8], present: u32, values: &mut Values) -> u32
 
 // Ports and flags.
 fn tcp(part: &[u8], present: u32, values: &mut Values) -> u32
-    ensures { λ r. ⌜ Filled (transportPuts tcp (now (part .entry))) present (now (values .entry)) r (now (values .exit)) ⌝ }
+    ensures { λ r. ⌜ Added (transportPuts tcp (now (part .entry))) present (now (values .entry)) r (now (values .exit)) ⌝ }
 {
     let set = udp(part, present, values);
     if part.len() < 14 {
@@ -47,7 +47,7 @@ fn tcp(part: &[u8], present: u32, values: &mut Values) -> u32
 
 // Type and code.
 fn icmp(part: &[u8], present: u32, values: &mut Values) -> u32
-    ensures { λ r. ⌜ Filled (transportPuts icmp (now (part .entry))) present (now (values .entry)) r (now (values .exit)) ⌝ }
+    ensures { λ r. ⌜ Added (transportPuts icmp (now (part .entry))) present (now (values .entry)) r (now (values .exit)) ⌝ }
 {
     if part.len() < 1 {
         return present;
@@ -61,7 +61,7 @@ fn icmp(part: &[u8], present: u32, values: &mut Values) -> u32
 
 // The fields of a part, by its protocol.
 pub fn fill(part: &[u8], protocol: u32, present: u32, values: &mut Values) -> u32
-    ensures { λ r. ⌜ Filled (transportPuts protocol (now (part .entry))) present (now (values .entry)) r (now (values .exit)) ⌝ }
+    ensures { λ r. ⌜ Added (transportPuts protocol (now (part .entry))) present (now (values .entry)) r (now (values .exit)) ⌝ }
 {
     if protocol == TCP {
         return tcp(part, present, values);

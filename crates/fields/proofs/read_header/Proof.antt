@@ -7,7 +7,7 @@ use mathlib.Core.Bool.{true}
 use mathlib.Core.List.{List}
 use Rattle.fields.specs.Ethernet.{etherType, ethernet}
 use Rattle.fields.proofs.Filling.{then}
-use Rattle.fields.proofs.Headers.{header, is-type, no-type, Packed, is-packet, no-packet, puts-none, puts-ethernet, puts-internet}
+use Rattle.fields.proofs.Headers.{from-puts, is-type, no-type, PacketAt, is-packet, no-packet, puts-none, puts-ethernet, puts-internet}
 use Rattle.fields.proofs.read_header.Statement.{statement}
 use Rattle.fields.proofs.read_header.Tie as tie
 
@@ -29,7 +29,7 @@ enum-told c = search needs
 returns : tie.Need-returns
 returns c =
     let found = c .before .before in
-    header (puts-none _ _ (no-type _ (sym (found .type-in .ensures) ∙ c .enum-told .given .1))) (found .before .put .ensures)
+    from-puts (puts-none _ _ (no-type _ (sym (found .type-in .ensures) ∙ c .enum-told .given .1))) (found .before .put .ensures)
 
 packet-in-requires : tie.Need-packet-in-requires
 packet-in-requires c κs = search needs
@@ -43,31 +43,31 @@ enum-known-packet c = search needs
 enum-told-2 : tie.Need-enum-told-2
 enum-told-2 c = search needs
 
-typed : (c : tie.After-ether-type) → (ethernet (frameIn c) ≡ true) × (etherType (frameIn c) ≡ c .ether-type .given .0 .0)
-typed c = is-type _ (sym (c .before .before .type-in .ensures) ∙ c .ether-type .given .1)
+type-known : (c : tie.After-ether-type) → (ethernet (frameIn c) ≡ true) × (etherType (frameIn c) ≡ c .ether-type .given .0 .0)
+type-known c = is-type _ (sym (c .before .before .type-in .ensures) ∙ c .ether-type .given .1)
 
 returns-2 : tie.Need-returns-2
 returns-2 c =
     let named = c .before .before in
     let found = named .before .before in
-    let type = typed (found .before .before) in
-    header
+    let type = type-known (found .before .before) in
+    from-puts
     (puts-ethernet _ _ (type .0) (no-packet _ (sym (found .packet-in .ensures) ∙ c .enum-told2 .given .1)))
     (rw (type .1) (then (found .before .before .before .before .before .put .ensures) (named .put2 .ensures)))
 
-packed : (c : tie.After-packet) → Packed (frameIn (c .before .before .before .before .before .before)) (c .packet .given .0 .0) (c .packet .given .0 .1 .0)
-packed c = is-packet _ (sym (c .before .before .before .before .packet-in .ensures) ∙ c .packet .given .1)
+packet-known : (c : tie.After-packet) → PacketAt (frameIn (c .before .before .before .before .before .before)) (c .packet .given .0 .0) (c .packet .given .0 .1 .0)
+packet-known c = is-packet _ (sym (c .before .before .before .before .packet-in .ensures) ∙ c .packet .given .1)
 
 fill-requires : tie.Need-fill-requires
-fill-requires c κs = packed (c .before .before) .spans
+fill-requires c κs = packet-known (c .before .before) .spans
 
 returns-3 : tie.Need-returns-3
 returns-3 c =
     let packet = c .before .before .before in
     let named = packet .before .before in
     let found = named .before .before in
-    let type = typed (found .before .before) in
-    header (puts-internet _ _ (type .0) (packed packet))
+    let type = type-known (found .before .before) in
+    from-puts (puts-internet _ _ (type .0) (packet-known packet))
     (rw (type .1) (then (then (found .before .before .before .before .before .put .ensures) (named .put2 .ensures)) (c .fill .ensures)))
 
 pub read-header-spec : {M : Type 1} → statement M

@@ -1,9 +1,9 @@
 -- A header by its parts, for the contracts of the functions that read them.
---   Filled                 what making the puts answers, given the set s, and the words it leaves
---   typeIn f               field 0
---   packetIn f             a packet that is whole, with the start and the end of its transport part
---   packetPuts f a e       the fields of a packet whose transport part runs from a to e
---   Spans f a e            such a part lies in the frame, behind the shortest header
+--   Added              the puts ps, added to the set s and to the words old, give the set r and the words new
+--   typeIn f           field 0
+--   packetIn f         a packet that is whole, with the start and the end of its transport part
+--   packetPuts f a e   the fields of a packet whose transport part runs from a to e
+--   Spans f a e        the frame has room for a header, and a part from a to e
 use Prim.Native.Nat.{ℕ, _≤_}
 use mathlib.Core.Path.{_≡_}
 use mathlib.Core.Bool.{cond}
@@ -18,10 +18,10 @@ use Rattle.fields.specs.Puts.{Put}
 use Rattle.fields.specs.Ethernet.{etherType, ethernet}
 use Rattle.fields.specs.Ipv4.{internet, internetPuts, protocol, transportStart, transportEnd}
 use Rattle.fields.specs.Transport.{transportPuts}
-use Rattle.fields.specs.Header.{joined, filled}
+use Rattle.fields.specs.Header.{noted, filled}
 
-pub record Filled (ps : List Put) (s : ℕ) (old : List ℕ) (r : ℕ) (new : List ℕ) : Type 0 where
-  pub set : r ≡ joined ps s
+pub record Added (ps : List Put) (s : ℕ) (old : List ℕ) (r : ℕ) (new : List ℕ) : Type 0 where
+  pub set : r ≡ noted ps s
   pub words : new ≡ filled ps old
 
 abbrev pub typeIn : List ℕ → Reading

@@ -1,7 +1,7 @@
 -- A header that was read once answers for every field what the definition answers.
 use Prim.Native.Nat.{ℕ, _^_, _<_}
 use native.Mathlib.Omega.{arith}
-use mathlib.Core.Path.{_≡_, refl, sym, _∙_}
+use mathlib.Core.Path.{_≡_, refl, sym}
 use mathlib.Core.Bool.{Bool, true, false, cond, or-true, or-false}
 use mathlib.Core.List.{List, [], _∷_}
 use lib.Bits.{bitOr}
@@ -16,28 +16,30 @@ use Rattle.sets.specs.Laws.{member-empty, member-or, member-one}
 use Rattle.fields.specs.Widths.{fieldCount}
 use Rattle.fields.specs.Puts.{Put, putAll}
 use Rattle.fields.specs.Fields.{puts, readings, field}
-use Rattle.fields.specs.Header.{joined, filled, presentSet, readingAt}
+use Rattle.fields.specs.Header.{noted, filled, presentSet, readingAt}
 
--- A set and words say what readings say, each field by its number.
-record Says (s : ℕ) (vs : List ℕ) (rs : List Reading) : Type 0 where
-  long : length vs ≡ length rs
-  each : (n : ℕ) → n < length rs → cond (member n s) (Value (getD vs n 0)) Absent ≡ getD rs n Absent
+-- A set and k words say what k readings say, each field by its number.
+record Says (k s : ℕ) (vs : List ℕ) (rs : List Reading) : Type 0 where
+  words : length vs ≡ k
+  rows : length rs ≡ k
+  each : (n : ℕ) → n < k → cond (member n s) (Value (getD vs n 0)) Absent ≡ getD rs n Absent
 
-says-nothing : (old : List ℕ) (k : ℕ) → length old ≡ k → Says 0 old (replicate k Absent)
-says-nothing old k h =
+says-nothing : (k : ℕ) (old : List ℕ) → length old ≡ k → Says k 0 old (replicate k Absent)
+says-nothing k old long =
     record {
-      long = rw length-replicate h;
-      each = λ n l. let within : n < k = rw length-replicate at l in rw (member-empty n) (sym (getD-replicate k n Absent Absent within));
+      words = long;
+      rows = length-replicate k Absent;
+      each = λ n l. rw (member-empty n) (sym (getD-replicate k n Absent Absent l));
     }
 
-module _ {s : ℕ} {vs : List ℕ} {rs : List Reading} (says : Says s vs rs) (m x : ℕ) where
+module _ {k s : ℕ} {vs : List ℕ} {rs : List Reading} (says : Says k s vs rs) (m x : ℕ) where
   put-at :
-      (n : ℕ) → n < length rs → (b : Bool) → eqb n m ≡ b →
+      (n : ℕ) → n < k → (b : Bool) → eqb n m ≡ b →
       cond (member n (bitOr s (2 ^ m))) (Value (getD (set vs m x) n 0)) Absent ≡ getD (set rs m (Value x)) n Absent
   put-at n l true e =
       let same : n ≡ m = eqb-true n m e in
-      let before : m < length vs = omega (arith, says .long) in
-      let within : m < length rs = omega arith in
+      let before : m < length vs = omega (arith, says .words) in
+      let within : m < length rs = omega (arith, says .rows) in
       rw (member-or n s (2 ^ m), member-one n m, e, or-true (member n s), same)
       (rw (getD-set-same vs m x 0 before) (sym (getD-set-same rs m (Value x) Absent within)))
   put-at n l false e =
@@ -52,36 +54,29 @@ module _ {s : ℕ} {vs : List ℕ} {rs : List Reading} (says : Says s vs rs) (m 
       )
       (says .each n l)
 
-  says-put : Says (bitOr s (2 ^ m)) (set vs m x) (set rs m (Value x))
+  says-put : Says k (bitOr s (2 ^ m)) (set vs m x) (set rs m (Value x))
   says-put =
       record {
-        long = simp length-set (says .long);
-        each = λ n l. put-at n (rw length-set at l) (eqb n m) refl;
+        words = simp length-set (says .words);
+        rows = simp length-set (says .rows);
+        each = λ n l. put-at n l (eqb n m) refl;
       }
 
-says-all : (ps : List Put) {s : ℕ} {vs : List ℕ} {rs : List Reading} → Says s vs rs → Says (joined ps s) (filled ps vs) (putAll ps rs)
-unfolding joined filled putAll
+says-all :
+    (ps : List Put) {k s : ℕ} {vs : List ℕ} {rs : List Reading} → Says k s vs rs → Says k (noted ps s) (filled ps vs) (putAll ps rs)
+unfolding noted filled putAll
 says-all [] says = says
-says-all (q ∷ ps) says = says-all ps (says-put says (q .0) (q .1))
-
-length-put-all : (ps : List Put) (rs : List Reading) → length (putAll ps rs) ≡ length rs
-unfolding putAll
-length-put-all [] rs = refl
-length-put-all (q ∷ ps) rs = length-put-all ps (set rs (q .0) (Value (q .1))) ∙ length-set rs (q .0) (Value (q .1))
+says-all ((n, x) ∷ ps) says = says-all ps (says-put says n x)
 
 module _ (f : List ℕ) (p : ℕ) (old : List ℕ) (long : length old ≡ fieldCount) (n : ℕ) where
-  says : Says (presentSet f p) (filled (puts f p) old) (readings f p)
+  header-says : Says fieldCount (presentSet f p) (filled (puts f p) old) (readings f p)
   unfolding presentSet readings
-  says = says-all (puts f p) (says-nothing old fieldCount long)
-
-  readings-long : length (readings f p) ≡ fieldCount
-  unfolding readings
-  readings-long = length-put-all (puts f p) (replicate fieldCount Absent)
+  header-says = says-all (puts f p) (says-nothing fieldCount old long)
 
   by-number : (b : Bool) → ltb n fieldCount ≡ b → readingAt (presentSet f p) (filled (puts f p) old) n ≡ field f p n
   unfolding readingAt field
-  by-number true e = rw e (says .each n (rw readings-long (ltb-true n fieldCount e)))
-  by-number false e = rw e (sym (List·getD-eq-default (readings f p) Absent (rw readings-long (ltb-false n fieldCount e))))
+  by-number true e = rw e (header-says .each n (ltb-true n fieldCount e))
+  by-number false e = rw e (sym (List·getD-eq-default (readings f p) Absent (rw (header-says .rows) (ltb-false n fieldCount e))))
 
   pub header-agrees : readingAt (presentSet f p) (filled (puts f p) old) n ≡ field f p n
   header-agrees = by-number (ltb n fieldCount) refl

@@ -10,14 +10,14 @@ use Rattle.residue.specs.Choice.{first, second}
 use Rattle.fields.specs.Ethernet.{ipStart, etherType}
 use Rattle.fields.specs.Ipv4.{internet, version, headerLength, totalLength}
 
-pub record Internet (f : List ℕ) : Type 0 where
+pub record Lengths (f : List ℕ) : Type 0 where
   pub type : etherType f ≡ 0x0800
   pub whole : 34 ≤ length f
   pub least : 20 ≤ headerLength f
   pub header : headerLength f ≤ totalLength f
   pub inside : ipStart + totalLength f ≤ length f
 
-pub internet-lengths : (f : List ℕ) → internet f ≡ true → Internet f
+pub internet-lengths : (f : List ℕ) → internet f ≡ true → Lengths f
 unfolding internet
 internet-lengths f h =
     let c1 = eqb (etherType f) 0x0800 in

@@ -74,20 +74,20 @@ set-keeps P (q ∷ rs) zero r all new (suc n) = all (suc n)
 set-keeps P (q ∷ rs) (suc m) r all new zero = all zero
 set-keeps P (q ∷ rs) (suc m) r all new (suc n) = set-keeps (λ (k : ℕ). P (suc k)) rs m r (λ (k : ℕ). all (suc k)) new n
 
-abbrev InWidth : ℕ → Reading → Type 0
-InWidth n r = inWidth (full n) r ≡ true
+abbrev FitsField : ℕ → Reading → Type 0
+FitsField n r = inWidth (full n) r ≡ true
 
 in-width : (w : ℕ) {x : ℕ} → x < 2 ^ w → inWidth (2 ^ w - 1) (Value x) ≡ true
 unfolding inWidth
 in-width w {x} h = le-leb x (2 ^ w - 1) (le-ones w h)
 
 all-in-width :
-    {ps : List Put} → AllFit ps → (rs : List Reading) → ((n : ℕ) → InWidth n (getD rs n Absent)) →
-    (n : ℕ) → InWidth n (getD (putAll ps rs) n Absent)
+    {ps : List Put} → AllFit ps → (rs : List Reading) → ((n : ℕ) → FitsField n (getD rs n Absent)) →
+    (n : ℕ) → FitsField n (getD (putAll ps rs) n Absent)
 unfolding putAll full
 all-in-width none rs all = all
 all-in-width (more n {x} fit fits) rs all =
-    all-in-width fits (set rs n (Value x)) (set-keeps InWidth rs n (Value x) all (in-width (width n) fit))
+    all-in-width fits (set rs n (Value x)) (set-keeps FitsField rs n (Value x) all (in-width (width n) fit))
 
 absent-in-width : (k n m : ℕ) → inWidth m (getD (replicate k Absent) n Absent) ≡ true
 unfolding inWidth

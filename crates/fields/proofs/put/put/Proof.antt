@@ -8,7 +8,7 @@ use mathlib.Core.Path.{_≡_, refl, ap, _∙_}
 use lib.Bits.{bitOr}
 use lib.Dec.{lit<}
 use lib.Pow.{shl-exact}
-use Rattle.fields.specs.Header.{joined, filled}
+use Rattle.fields.specs.Header.{noted, filled}
 use Rattle.fields.proofs.put.put.Statement.{statement}
 use Rattle.fields.proofs.put.put.Tie as tie
 
@@ -25,7 +25,7 @@ shl-result : tie.Need-shl-result
 shl-result c = search needs
 
 returns : tie.Need-returns
-unfolding joined filled
+unfolding noted filled
 returns c = record { set = ap (bitOr (c .args .present)) (moved (c .args .number) (omega arith)); words = refl }
 
 pub put-spec : {M : Type 1} → statement M

@@ -1,7 +1,7 @@
 -- `fields::transport::fill` meets its contract: each protocol's own function has it, and no other protocol has these fields.
 -- Assumes nothing.
 use borrow.Author.Needs.{needs}
-use Rattle.fields.proofs.Filling.{nothing}
+use Rattle.fields.proofs.Filling.{unchanged}
 use Rattle.fields.proofs.Transports.{other}
 use Rattle.fields.proofs.transport.fill.Statement.{statement}
 use Rattle.fields.proofs.transport.fill.Tie as tie
@@ -25,7 +25,7 @@ returns-3 : tie.Need-returns-3
 returns-3 c = rw (c .before .before .if3 .taken) (c .icmp .ensures)
 
 returns-4 : tie.Need-returns-4
-returns-4 c = rw (other _ _ (c .before .before .if1 .left) (c .before .if2 .left) (c .if3 .left)) nothing
+returns-4 c = rw (other _ _ (c .before .before .if1 .left) (c .before .if2 .left) (c .if3 .left)) unchanged
 
 pub fill-spec : {M : Type 1} → statement M
 fill-spec =

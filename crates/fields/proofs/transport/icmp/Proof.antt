@@ -1,13 +1,13 @@
 -- `fields::transport::icmp` meets its contract: no byte, one byte or more put nothing, the type, or type and code.
 -- Assumes nothing.
 use borrow.Author.Needs.{needs}
-use Rattle.fields.proofs.Filling.{nothing, then}
+use Rattle.fields.proofs.Filling.{unchanged, then}
 use Rattle.fields.proofs.Transports.{icmp-none, icmp-type, icmp-whole}
 use Rattle.fields.proofs.transport.icmp.Statement.{statement}
 use Rattle.fields.proofs.transport.icmp.Tie as tie
 
 returns : tie.Need-returns
-returns c = rw (icmp-none _ (c .if1 .taken)) nothing
+returns c = rw (icmp-none _ (c .if1 .taken)) unchanged
 
 byte-at-requires : tie.Need-byte-at-requires
 byte-at-requires c κs = search needs

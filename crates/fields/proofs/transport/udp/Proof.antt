@@ -4,7 +4,7 @@ use borrow.Author.Needs.{needs}
 use native.Mathlib.Omega.{arith}
 use Prim.Native.Nat.{_<_}
 use lib.ListN.{length}
-use Rattle.fields.proofs.Filling.{nothing, then}
+use Rattle.fields.proofs.Filling.{unchanged, then}
 use Rattle.fields.proofs.Transports.{udp-short, udp-whole}
 use Rattle.fields.proofs.transport.udp.Statement.{statement}
 use Rattle.fields.proofs.transport.udp.Tie as tie
@@ -12,7 +12,7 @@ use Rattle.fields.proofs.transport.udp.Tie as tie
 returns : tie.Need-returns
 returns c =
     let short : length (c .before .before .args .part .now) < 4 = omega arith in
-    rw (udp-short _ short) nothing
+    rw (udp-short _ short) unchanged
 
 two-at-requires : tie.Need-two-at-requires
 two-at-requires c κs = search needs
