@@ -10,7 +10,7 @@ use mathlib.Core.Logic.{_⊎_}
 use mathlib.Core.List.{List}
 use lib.ListN.{length}
 use Rattle.fields.specs.Fields.{field}
-use Rattle.fields.specs.Bounds.{Bytes}
+use Rattle.fields.specs.Bytes.{Bytes}
 use Rattle.sets.specs.Sets.{member}
 use Rattle.lists.specs.Filters.{Filter, filtersOf, testsIn}
 use Rattle.lists.specs.Ranks.{matches}

@@ -14,7 +14,7 @@ use mathlib.Core.List.{List, [], _∷_}
 use lib.ListN.{length}
 use Rattle.residue.specs.declared.Outcome.{Outcome}
 use Rattle.residue.specs.declared.Outcome.the-variants.{Holds, Fails, Absent}
-use Rattle.fields.specs.Bounds.{Bytes}
+use Rattle.fields.specs.Bytes.{Bytes}
 use Rattle.lists.specs.Accepted.{itemWords}
 use Rattle.lists.specs.Filters.{Item, Filter}
 use Rattle.states.specs.States.{State, start, Question, nothing, ask, questionOf, stepBy, sureSet, outSet}

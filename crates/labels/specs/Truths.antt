@@ -13,7 +13,7 @@ use borrow.Author.Tests.{lt-ltb, le-ltb, ne-eqb}
 use Rattle.residue.specs.Choice.{both, first, second}
 use Rattle.residue.specs.declared.Reading.{Reading}
 use Rattle.fields.specs.Fields.{field}
-use Rattle.fields.specs.LawsValues.{value-in-width}
+use Rattle.fields.specs.laws.Values.{value-in-width}
 use Rattle.sets.specs.Sets.{member}
 use Rattle.lists.specs.Accepted.{wellFilters}
 use Rattle.lists.specs.Filters.{Item, Filter, testsIn}

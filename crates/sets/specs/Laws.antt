@@ -1,8 +1,8 @@
 -- Laws of bit sets. None names a width; minus-sets takes the width of the word as an argument.
 --   each f xs ys   the list of f x y, place by place
 --   none bs        no truth in the list
--- A set and its list: member-setOf, setOf-bound, setOf-injective, set-snoc, or-snoc.
--- Operations: and-sets, or-sets, minus-sets; empty sets: zero-sets.
+-- A set and its list: member-empty, member-setOf, setOf-bound, setOf-injective, set-snoc, or-snoc.
+-- Operations: member-or, member-one, and-sets, or-sets, minus-sets; empty sets: zero-sets.
 -- Tallies: length-tally, getD-tally, getD-tally-beyond, member-tally, tally-ext, each-tally, and-tally-zero.
 -- Some: some-true, some-false, some-where, some-ext.
 -- Assumes nothing.
@@ -15,8 +15,8 @@ use native.Mathlib.Nat.{zero-div, div-one, pow-suc, le-of-suc-le-suc, not-suc-le
 use native.Mathlib.Numerals.{add-one, one-add}
 use native.Mathlib.Omega.{arith}
 use lib.Arith.{digits-div, digits-mod}
-use lib.Bits.{bitAnd, bitOr, and-step, or-step, and-zero-r, or-shifted-r}
-use lib.Dec.{eqb, ltb, lit<}
+use lib.Bits.{bitAnd, bitOr, and-step, or-step, and-zero-r, or-shifted-r, or-shr}
+use lib.Dec.{eqb, ltb, lit<, eqb·zero-suc, eqb·suc-zero, eqb·suc-suc}
 use lib.ListN.{length, getD, length-append, List·getD-append, List·getD-eq-default}
 use lib.Pow.{shr-shr}
 use lib.Seq.{getD-at}
@@ -49,7 +49,7 @@ member-suc : (i s : ℕ) → member (suc i) s ≡ member i (s / 2)
 unfolding member
 member-suc i s = ap (λ (x : ℕ). eqb (x % 2) 1) (sym (shr-shr s 1 i ∙ ap (λ (k : ℕ). s / 2 ^ k) (one-add i)))
 
-member-empty : (i : ℕ) → member i 0 ≡ false
+pub member-empty : (i : ℕ) → member i 0 ≡ false
 unfolding member
 member-empty i = ap (λ (x : ℕ). eqb (x % 2) 1) (zero-div (2 ^ i))
 
@@ -104,6 +104,35 @@ max-bits true true = refl
 max-bits true false = refl
 max-bits false true = refl
 max-bits false false = refl
+
+-- A join, and one more anywhere: what `s | 1 << m` makes.
+small-bit : (x : ℕ) → x < 2 → x ≡ bit (eqb x 1)
+small-bit zero l = refl
+small-bit (suc zero) l = refl
+small-bit (suc (suc x)) l = absurd (omega arith)
+
+or-odd : (a b : ℕ) → bitOr a b % 2 ≡ bit (eqb (a % 2) 1 || eqb (b % 2) 1)
+or-odd a b =
+    let x = eqb (a % 2) 1 in
+    let y = eqb (b % 2) 1 in
+    let most : max (a % 2) (b % 2) ≡ bit (x || y) =
+    ap₂ max (small-bit (a % 2) (omega arith)) (small-bit (b % 2) (omega arith)) ∙ max-bits x y in
+    rw (or-step a b, most) (digits-mod (bitOr (a / 2) (b / 2)) (bit-lt (x || y)))
+
+pub member-or : (i a b : ℕ) → member i (bitOr a b) ≡ (member i a || member i b)
+member-or zero a b = rw (member-zero (bitOr a b), member-zero a, member-zero b, or-odd a b) (eqb-bit _)
+member-or (suc i) a b =
+    rw (member-suc i (bitOr a b), member-suc i a, member-suc i b, or-shr a b 1) (member-or i (a / 2) (b / 2))
+
+pub member-one : (i m : ℕ) → member i (2 ^ m) ≡ eqb i m
+member-one zero zero = member-zero 1
+member-one zero (suc m) =
+    let even : 2 ^ suc m % 2 ≡ 0 = omega (arith, pow-suc 2 m) in
+    rw (member-zero (2 ^ suc m), even, eqb·zero-suc m)
+member-one (suc i) zero = rw (member-suc i 1, eqb·suc-zero i) (member-empty i)
+member-one (suc i) (suc m) =
+    let half : 2 ^ suc m / 2 ≡ 2 ^ m = omega (arith, pow-suc 2 m) in
+    rw (member-suc i (2 ^ suc m), half, eqb·suc-suc i m) (member-one i m)
 
 pub and-sets : (xs ys : List Bool) → bitAnd (setOf xs) (setOf ys) ≡ setOf (each _&&_ xs ys)
 unfolding setOf each
