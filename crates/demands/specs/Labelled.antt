@@ -17,13 +17,14 @@ use Rattle.states.specs.Runs.{asks}
 use Rattle.states.specs.Laws.{Picked, by-question, step-ask}
 use Rattle.automaton.specs.Machines.{meets, placeOf, nextsOf, recordOf, recordsOf}
 use Rattle.automaton.specs.Placing.{nextWord}
-use Rattle.automaton.specs.Places.{place-below}
+use Rattle.automaton.specs.Lists.{getD-mem}
+use Rattle.automaton.specs.Places.{mem-meets, place-below}
 use Rattle.automaton.specs.Records.{records-word, record-question, record-next, record-sets}
 use Rattle.tables.specs.Tables.{recordWords, maxSlots, slotsOf, wordOf, sureAt, outAt}
 use Rattle.tables.specs.Laws.{slots-least}
 use Rattle.slots.specs.Laws.{questionWords}
 use Rattle.machine.specs.Box.{boxOf, statesOf, recordsIn}
-use Rattle.machine.specs.Laws.{Good, box-lawful, states-good, state-good, state-met, states-closed, states-place, states-some, records-size, start-first, start-met}
+use Rattle.machine.specs.Laws.{Good, box-lawful, states-good, states-closed, states-place, states-some, records-size, start-first, start-met}
 use Rattle.labels.specs.Labels.{questionAt, wayAt, FinalRecord, AskingRecord, LabelledBy}
 
 -- As many slots as there are records.
@@ -43,11 +44,11 @@ module _ (fs : List Filter) (h : wellFilters fs ≡ true) (rest : List ℕ) wher
   -- ---- the record of a state, word by word
 
   module _ (n : ℕ) (l : n < length met) where
-    is-met : meets (boxOf fs) met (give n) ≡ true
-    is-met = state-met fs h n [] l
-
     good : Good fs (give n)
-    good = state-good fs h (give n) is-met
+    good = states-good fs h (give n) (getD-mem met n [] l)
+
+    is-met : meets (boxOf fs) met (give n) ≡ true
+    is-met = mem-meets (box-lawful fs) good (getD-mem met n [] l)
 
     word-at : (j : ℕ) → j < recordWords → wordOf table n j ≡ getD (recordOf (boxOf fs) met (give n)) j 0
     unfolding wordOf recordsIn

@@ -1,5 +1,5 @@
 -- On the words of slots the machine of a list does what it does on states.
---   slots-carried, slots-same   the words of a good state ask, step and read as the state does, and compare alike
+--   slots-same, slots-carried   the words of a good state compare, ask, step and read as the state does
 --   whole           what placing a list's states in so many slots comes to
 --   list-placed     so the builder, placing words, places the list's states with their records, or is full where they are more than the slots
 use Prim.Native.Nat.{ℕ, _≤_}
@@ -36,6 +36,9 @@ abbrev pub PlacesStates : List Filter → ℕ → ℕ → ℕ → List ℕ → T
 PlacesStates fs n slots k w = placeAll (slotsIn n (rankSets fs)) slots k w ≡ whole n (rankSets fs) fs slots
 
 module _ (fs : List Filter) (few : length fs ≤ maxFilters) where
+  pub slots-same : SameCarried (boxOf fs) (slotsIn (length fs) (rankSets fs)) (Good fs) written
+  slots-same = record { same-carried = λ a b g h. same-written a b (g .each ∙ sym (h .each)) (g .fits) (h .fits) }
+
   pub slots-carried : Carried (boxOf fs) (slotsIn (length fs) (rankSets fs)) (Good fs) written
   slots-carried =
       record {
@@ -44,9 +47,6 @@ module _ (fs : List Filter) (few : length fs ≤ maxFilters) where
         question-carried = λ s g. question-written (length fs) s (g .each) (g .fits);
         sets-carried = λ s g. ap₂ (λ (x y : ℕ). x ∷ y ∷ []) (sure-written fs s (g .each) few (g .fits)) (out-written fs s (g .each) few (g .fits));
       }
-
-  pub slots-same : SameCarried (boxOf fs) (slotsIn (length fs) (rankSets fs)) (Good fs) written
-  slots-same = record { same-carried = λ a b g h. same-written a b (g .each ∙ sym (h .each)) (g .fits) (h .fits) }
 
   slots-placed : wellFilters fs ≡ true → (slots : ℕ) → PlacesStates fs (length fs) slots (testsIn fs) (written (start fs))
   unfolding statesOf

@@ -1,6 +1,6 @@
 -- The machine of a well-formed list is lawful, so its states are met each once, and they are exactly those that outcomes reach from the start.
 --   Good fs s   a state of the list fs: a standing for each filter, every remaining test well formed, and it fits a slot
-use Prim.Native.Nat.{ℕ, _*_, _<_}
+use Prim.Native.Nat.{_*_, _<_}
 use native.Mathlib.Omega.{arith}
 use mathlib.Core.Path.{_≡_, refl, _∙_}
 use mathlib.Core.Bool.{true}
@@ -13,7 +13,7 @@ use Rattle.states.specs.States.{State, Question, nothing, ask, questionOf, star
 use Rattle.states.specs.Laws.{wellState, well-start, well-step, length-start, length-step, start-remaining, next-falls, step-keeps, same-state-eq, same-state-refl}
 use Rattle.automaton.specs.Machines.{meets, placeOf}
 use Rattle.automaton.specs.Lawful.{Lawful, Reached, Distinct}
-use Rattle.automaton.specs.Reaching.{all-each-good, all-good, all-closed, all-start, all-reached, reached-all, all-distinct, all-getD-meets, all-place-state, all-place-start}
+use Rattle.automaton.specs.Reaching.{all-each-good, all-good, all-closed, all-start, all-reached, reached-all, all-distinct, all-place-state, all-place-start}
 use Rattle.automaton.specs.Lists.{Each}
 use Rattle.automaton.specs.Places.{place-below}
 use Rattle.automaton.specs.Records.{records-long}
@@ -72,10 +72,6 @@ module _ (fs : List Filter) (h : wellFilters fs ≡ true) where
   pub state-good : (s : State) → meets (boxOf fs) (statesOf fs) s ≡ true → Good fs s
   unfolding statesOf
   state-good = all-good (box-lawful fs) (levelsOf fs) (start fs) (good-start fs h) enough
-
-  pub state-met : (n : ℕ) (d : State) → n < length (statesOf fs) → meets (boxOf fs) (statesOf fs) (getD (statesOf fs) n d) ≡ true
-  unfolding statesOf
-  state-met = all-getD-meets (box-lawful fs) (levelsOf fs) (start fs) (good-start fs h) enough
 
   pub states-closed : (o : Outcome) (s : State) → meets (boxOf fs) (statesOf fs) s ≡ true → asks (questionOf s) ≡ true → meets (boxOf fs) (statesOf fs) (step fs o s) ≡ true
   unfolding statesOf
