@@ -8,7 +8,8 @@ use lib.ListN.{length}
 use Rattle.lists.specs.Filters.{Filter, maxFilters, filtersOf, testsIn}
 use Rattle.lists.specs.Refusals.{listed}
 use Rattle.lists.specs.Ranks.{rankSets}
-use Rattle.lists.specs.Laws.{accepted-count, accepted-well, length-rankSets}
+use Rattle.lists.specs.laws.Accepted.{accepted-count, accepted-well}
+use Rattle.lists.specs.laws.Ranking.{length-rankSets}
 use Rattle.lists.specs.declared.Listed.the-variants.{Accepted}
 use Rattle.tables.specs.Tables.{recordWords, maxSlots, slotsOf}
 use Rattle.slots.specs.Words.{slotWords, written}

@@ -18,7 +18,8 @@ use Rattle.residue.specs.declared.Reading.the-variants as R
 use Rattle.residue.specs.declared.Outcome.{Outcome}
 use Rattle.residue.specs.declared.Outcome.the-variants.{Holds, Fails, Absent}
 use Rattle.fields.specs.Widths.{fieldCount}
-use Rattle.lists.specs.Accepted.{wellFilters, kindOf, maskOf, valueOf, itemWords}
+use Rattle.lists.specs.inner.Well.{wellFilters}
+use Rattle.lists.specs.Words.{kindOf, maskOf, valueOf, itemWords}
 use Rattle.lists.specs.Filters.{Item, Filter, testOf}
 use Rattle.states.specs.States.{State, Question, nothing, ask, questionOf, step, sureSet, outSet}
 use Rattle.states.specs.Runs.{wayOf, advance, run, askedIn}

@@ -20,7 +20,7 @@ use Rattle.fields.specs.Fields.{field}
 use Rattle.fields.specs.Bounds.{Bytes}
 use Rattle.fields.specs.LawsValues.{value-in-width}
 use Rattle.sets.specs.Sets.{member}
-use Rattle.lists.specs.Accepted.{wellFilters}
+use Rattle.lists.specs.inner.Well.{wellFilters}
 use Rattle.lists.specs.Filters.{Filter, filtersOf, testsIn}
 use Rattle.lists.specs.Ranks.{fires, matches}
 use Rattle.states.specs.States.{State, Question, nothing, ask, questionOf, standing, isOut, start, sure, isOpen, sureSet, outSet}

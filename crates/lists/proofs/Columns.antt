@@ -15,11 +15,13 @@ use lib.Dec.{ltb}
 use lib.ListN.{length, getD, take, drop, set, length-drop, length-set, drop-of-length-le, List·getD-map}
 use lib.Seq.{getD-drop, getD-take, drop-drop, take-suc-set, append-snoc}
 use borrow.Author.Tests.{ltb-true, ltb-false}
+use Rattle.residue.specs.Choice.{first, second}
 use Rattle.sets.specs.Sets.{setOf, tally}
 use Rattle.sets.specs.Laws.{tally-ext, tally-more}
 use Rattle.lists.specs.Filters.{Filter, maxFilters, filterWords, filterOf, filtersFrom, filtersOf}
-use Rattle.lists.specs.Laws.{and-parts, filters-step, filters-none}
-use Rattle.lists.specs.Ranks.{noFilter, above, aboveBy, rankSetBy, rankSet, rankSets, Heads}
+use Rattle.lists.specs.laws.Walking.{filters-step, filters-none}
+use Rattle.lists.specs.Ranks.{noFilter, above, rankSet, rankSets}
+use Rattle.lists.specs.inner.Columns.{aboveBy, rankSetBy, Heads}
 
 abbrev pub groupIn : Filter → ℕ
 groupIn f = f .group
@@ -42,8 +44,7 @@ filters-turn ws at n h l =
 -- The loop's test: there is room for a filter, and there are words.
 pub goes-on : (n at len : ℕ) → (ltb n maxFilters && ltb at len) ≡ true → (n < maxFilters) × (at < len)
 goes-on n at len e =
-    let p = and-parts (ltb n maxFilters) (ltb at len) e in
-    (ltb-true n maxFilters (p .0), ltb-true at len (p .1))
+    (ltb-true n maxFilters (first (ltb n maxFilters) (ltb at len) e), ltb-true at len (second (ltb n maxFilters) (ltb at len) e))
 
 pub filters-end : (ws : List ℕ) (at n : ℕ) → (ltb n maxFilters && ltb at (length ws)) ≡ false → filtersFrom (maxFilters - n) (drop at ws) ≡ []
 unfolding filtersFrom

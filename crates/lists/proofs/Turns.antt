@@ -13,7 +13,8 @@ use lib.Seq.{getD-drop, drop-drop, take-all}
 use borrow.Author.Tests.{eq-eqb, ne-eqb}
 use Rattle.lists.specs.Filters.{maxFilters, testWords, countWord, filterWords}
 use Rattle.lists.specs.Refusals.{testFault, wordsFault, testsFault, filterFault, listedFrom}
-use Rattle.lists.specs.Laws.{no-fault, listed-step, listed-full}
+use Rattle.lists.specs.laws.Faults.{no-fault}
+use Rattle.lists.specs.laws.Walking.{listed-step, listed-full}
 use Rattle.lists.specs.declared.Listed.the-variants.{Refused}
 
 pub words-at : (ws : List ℕ) (at : ℕ) → testFault (getD ws at 0) (getD ws (at + 1) 0) (getD ws (at + 2) 0) (getD ws (at + 3) 0) ≡ wordsFault (drop at ws)

@@ -6,7 +6,8 @@ ghost use lib.Dec.{eqb};
 ghost use lib.ListN.{length, getD, drop};
 ghost use Rattle.sets.specs.Sets.{setOf, tally};
 ghost use Rattle.lists.specs.Filters.{maxFilters, testWords, filtersOf};
-ghost use Rattle.lists.specs.Ranks.{Heads, aboveBy, rankSetBy, rankSets};
+ghost use Rattle.lists.specs.inner.Columns.{Heads, aboveBy, rankSetBy};
+ghost use Rattle.lists.specs.Ranks.{rankSets};
 ghost use Rattle.lists.specs.Refusals.{masked, testFault, wordsFault, testsFault, filterFault, listed};
 
 const MAX_FILTERS: usize = 32;

@@ -18,7 +18,7 @@ use Rattle.residue.specs.declared.Residue.{Residue}
 use Rattle.residue.specs.declared.Residue.the-variants.{True, False, Left}
 use Rattle.fields.specs.Widths.{full}
 use Rattle.lists.specs.Filters.{Item, testWords, maxTests, testOf, itemOf}
-use Rattle.lists.specs.Accepted.{itemWords}
+use Rattle.lists.specs.Words.{itemWords}
 use Rattle.states.specs.States.{Standing, out, left, keep, join, cut, cutStanding}
 use Rattle.slots.specs.Words.{filterSlot, outMark, itemsWords, outWords, writtenFilter, readItems, readFilter}
 use Rattle.slots.specs.Steps.{over, cleared, item, leftOf, keptWords, keptAt, finished, Kept}

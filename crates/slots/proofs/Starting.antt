@@ -10,8 +10,10 @@ use lib.Seq.{drop-drop, getD-drop}
 use Rattle.residue.specs.declared.Test.{Test}
 use Rattle.lists.specs.Filters.{Item, Filter, maxFilters, maxTests, headWords, testWords, countWord, filterWords, testOf, itemOf, itemsOf, filterOf, filtersFrom}
 use Rattle.lists.specs.Refusals.{listedFrom}
-use Rattle.lists.specs.Accepted.{itemWords}
-use Rattle.lists.specs.Laws.{NoFault, length-items, accepted-head, accepted-rest, accepted-last, filters-step, filters-none, listed-end}
+use Rattle.lists.specs.Words.{itemWords}
+use Rattle.lists.specs.laws.Faults.{NoFault}
+use Rattle.lists.specs.laws.Items.{length-items}
+use Rattle.lists.specs.laws.Walking.{accepted-head, accepted-rest, accepted-last, filters-step, filters-none, listed-end}
 use Rattle.lists.specs.declared.Listed.{Listed}
 use Rattle.lists.specs.declared.Listed.the-variants.{Accepted, Refused}
 use Rattle.states.specs.States.{left, allLeft}

@@ -12,8 +12,8 @@ use Rattle.residue.specs.Choice.{both, first, second}
 use Rattle.residue.specs.declared.Fact.{Fact}
 use Rattle.residue.specs.declared.Outcome.{Outcome}
 use Rattle.lists.specs.Filters.{Item, Filter, maxTests}
-use Rattle.lists.specs.Accepted.{wellFilter, wellFilters}
-use Rattle.lists.specs.Laws.{well-few}
+use Rattle.lists.specs.inner.Well.{wellFilter, wellFilters}
+use Rattle.lists.specs.laws.Accepted.{well-few}
 use Rattle.states.specs.States.{Standing, out, State, cutStanding, beaten, closedFrom, closed, allLeft, start, stepBy, remainingIn, step}
 use Rattle.states.specs.Laws.{step-keeps}
 use Rattle.states.specs.Measure.{cutStanding-le, closed-le}

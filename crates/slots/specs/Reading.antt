@@ -12,8 +12,8 @@ use Rattle.residue.specs.Choice.{first, second}
 use Rattle.residue.specs.declared.Test.{Test}
 use Rattle.residue.specs.declared.Test.the-variants.{Equal, Differs, AtMost, AtLeast}
 use Rattle.lists.specs.Filters.{Item, maxTests, testWords, itemOf}
-use Rattle.lists.specs.Accepted.{kindOf, itemWords}
-use Rattle.lists.specs.Laws.{item-round}
+use Rattle.lists.specs.Words.{kindOf, itemWords}
+use Rattle.lists.specs.laws.Items.{item-round}
 use Rattle.states.specs.States.{Standing, out, left, State, isHeld, isOut, remainingIn}
 use Rattle.slots.specs.Words.{filterSlot, outMark, itemsWords, outWords, writtenFilter, written, readItems, readFilter, readState}
 use Rattle.slots.specs.Fitting.{fitsStanding, fitsSlot, fits-le}

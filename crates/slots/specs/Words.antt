@@ -10,7 +10,7 @@ use mathlib.Core.List.{List, [], _∷_, _++_}
 use lib.Dec.{eqb}
 use lib.ListN.{length, getD, take, drop, replicate}
 use Rattle.lists.specs.Filters.{Item, maxFilters, maxTests, testWords, itemOf}
-use Rattle.lists.specs.Accepted.{itemWords}
+use Rattle.lists.specs.Words.{itemWords}
 use Rattle.states.specs.States.{Standing, out, left, State}
 
 abbrev pub filterSlot : ℕ

@@ -4,7 +4,7 @@ ghost use Prim.Native.Nat.{_+_, _*_, _≤_};
 ghost use lib.ListN.{length, take, drop};
 ghost use mathlib.Core.List.{_∷_, []};
 ghost use Rattle.lists.specs.Filters.{testWords, testOf, itemOf, itemsOf};
-ghost use Rattle.lists.specs.Accepted.{itemWords};
+ghost use Rattle.lists.specs.Words.{itemWords};
 ghost use Rattle.states.specs.States.{cutStanding, left};
 ghost use Rattle.slots.specs.Words.{filterSlot, itemsWords, outWords, writtenFilter, readFilter};
 ghost use Rattle.slots.specs.Steps.{over, cleared, item, leftOf, Room, Kept, Two, Cut, Tests};

@@ -19,7 +19,7 @@ use Rattle.residue.specs.declared.Outcome.{Outcome}
 use Rattle.residue.specs.declared.Residue.{Residue}
 use Rattle.residue.specs.declared.Residue.the-variants.{True, False, Left}
 use Rattle.fields.specs.Widths.{full}
-use Rattle.lists.specs.Accepted.{wellItem, wellFilters}
+use Rattle.lists.specs.inner.Well.{wellItem, wellFilters}
 use Rattle.lists.specs.Filters.{Item, Filter, testsIn}
 use Rattle.states.specs.States.{Standing, out, left, State, keep, join, cut, cutStanding, beaten, closedFrom, closed, allLeft, start, Question, nothing, ask, questionOf, stepBy, step, remainingIn, remaining}
 use Rattle.states.specs.Runs.{advance, run, askedIn, asks, asksAll}

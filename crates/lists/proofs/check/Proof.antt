@@ -7,7 +7,7 @@ use mathlib.Core.Path.{_≡_, refl, sym, ap, _∙_}
 use native.Mathlib.Omega.{arith}
 use lib.ListN.{length, drop, drop-of-length-le}
 use Rattle.lists.specs.Refusals.{filterFault, listedFrom, listed}
-use Rattle.lists.specs.Laws.{listed-end}
+use Rattle.lists.specs.laws.Walking.{listed-end}
 use Rattle.lists.specs.declared.Listed.the-variants.{Refused}
 use Rattle.lists.proofs.Turns.{list-turn, list-found, list-over, rest-is, Passed, passed}
 use borrow.Author.Needs.{needs}
