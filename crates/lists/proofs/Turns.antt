@@ -13,7 +13,6 @@ use lib.Seq.{getD-drop, drop-drop, take-all}
 use borrow.Author.Tests.{eq-eqb, ne-eqb}
 use Rattle.lists.specs.Filters.{maxFilters, testWords, countWord, filterWords}
 use Rattle.lists.specs.Refusals.{testFault, wordsFault, testsFault, filterFault, listedFrom}
-use Rattle.lists.specs.laws.Faults.{no-fault}
 use Rattle.lists.specs.laws.Walking.{listed-step, listed-full}
 use Rattle.lists.specs.declared.Listed.the-variants.{Refused}
 
@@ -33,16 +32,13 @@ unfolding testsFault
 tests-found ws zero l e = absurd (not-suc-le-zero l)
 tests-found ws (suc n) l e = rw (ne-eqb (wordsFault ws) 0 e)
 
-pub count-at : (ws : List ℕ) (at : ℕ) → countWord (drop at ws) ≡ getD ws (at + 2) 0
-count-at ws at = getD-drop at ws 2 0
-
 pub list-turn : (ws : List ℕ) (at i t : ℕ) → i < maxFilters → at < length ws → filterFault (drop at ws) ≡ 0 →
-    listedFrom (maxFilters - i) i t (drop at ws) ≡ listedFrom (maxFilters - (i + 1)) (i + 1) (t + getD ws (at + 2) 0) (drop (at + (3 + 4 * getD ws (at + 2) 0)) ws)
+    listedFrom (maxFilters - i) i t (drop at ws) ≡ listedFrom (maxFilters - (i + 1)) (i + 1) (t + countWord (drop at ws)) (drop (at + filterWords (drop at ws)) ws)
 list-turn ws at i t h l e =
     let z : maxFilters - i ≡ suc (maxFilters - (i + 1)) = omega arith in
     rw z
     (listed-step (maxFilters - (i + 1)) i t (drop at ws) (rw length-drop (omega arith)) ∙
-    rw (eq-eqb (filterFault (drop at ws)) 0 e, drop-drop (filterWords (drop at ws)) at ws, getD-drop at ws 2 0))
+    rw (eq-eqb (filterFault (drop at ws)) 0 e, drop-drop (filterWords (drop at ws)) at ws))
 
 pub list-found : (ws : List ℕ) (at i t : ℕ) → i < maxFilters → at < length ws → (filterFault (drop at ws) ≡ 0 → ⊥) →
     listedFrom (maxFilters - i) i t (drop at ws) ≡ Refused (filterFault (drop at ws)) i
@@ -60,16 +56,3 @@ list-over ws at i t h l =
 -- A part that is lent from a place on is the rest of the words.
 pub rest-is : (n : ℕ) (ws : List ℕ) → take (length ws - n) (drop n ws) ≡ drop n ws
 rest-is n ws = take-all (length ws - n) (drop n ws) (rw length-drop (le-refl (length ws - n)))
-
--- Where a filter has no fault, its words are there and its count is small.
-pub record Passed (ws : List ℕ) (at : ℕ) : Type 0 where
-  pub head : at + 3 ≤ length ws
-  pub count : getD ws (at + 2) 0 ≤ 8
-  pub whole : at + (3 + 4 * getD ws (at + 2) 0) ≤ length ws
-
-pub passed : (ws : List ℕ) (at : ℕ) → at < length ws → filterFault (drop at ws) ≡ 0 → Passed ws at
-passed ws at l e =
-    let h = no-fault (drop at ws) e in
-    let d = length-drop at ws in
-    let k = getD-drop at ws 2 0 in
-    record { head = omega (arith, h .head, d); count = omega (arith, h .count, k); whole = omega (arith, h .whole, h .head, d, k) }

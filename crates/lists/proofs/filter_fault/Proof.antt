@@ -29,18 +29,20 @@ returns-3 : tie.Need-returns-3
 unfolding filterFault
 returns-3 c = rw (le-ltb _ _ (c .before .before .before .before .before .if1 .left), c .before .if2 .left, lt-ltb _ _ (c .if3 .taken))
 
-cast-if4 : tie.Need-cast-if4
-cast-if4 c = search needs
-
-mul-if4 : tie.Need-mul-if4
-mul-if4 c = search needs
-
-add-if4 : tie.Need-add-if4
-add-if4 c = search needs
+filter-words-requires : tie.Need-filter-words-requires
+filter-words-requires c κs = search needs
 
 returns-4 : tie.Need-returns-4
 unfolding filterFault
-returns-4 c = rw (le-ltb _ _ (c .before .before .before .before .before .before .if1 .left), c .before .before .if2 .left, le-ltb _ _ (c .before .if3 .left), lt-ltb _ _ (c .if4 .taken))
+returns-4 c =
+    let d = c .before .before in
+    rw (
+      le-ltb _ _ (d .before .before .before .before .before .if1 .left),
+      d .before .if2 .left,
+      le-ltb _ _ (d .if3 .left),
+      ← c .before .filter-words .ensures,
+      lt-ltb _ _ (c .if4 .taken),
+    )
 
 sub-tests-fault : tie.Need-sub-tests-fault
 sub-tests-fault c = search needs
@@ -57,12 +59,14 @@ tests-fault-requires c κs = search needs
 returns-5 : tie.Need-returns-5
 unfolding filterFault
 returns-5 c =
-    let d = c .before .before in
+    let b = c .before .before in
+    let d = b .before .before in
     rw (
-      le-ltb _ _ (d .before .before .before .before .before .before .if1 .left),
-      d .before .before .if2 .left,
-      le-ltb _ _ (d .before .if3 .left),
-      le-ltb _ _ (d .if4 .left),
+      le-ltb _ _ (d .before .before .before .before .before .if1 .left),
+      d .before .if2 .left,
+      le-ltb _ _ (d .if3 .left),
+      ← b .before .filter-words .ensures,
+      le-ltb _ _ (b .if4 .left),
     )
     (c .tests-fault .ensures ∙ rw rest-is)
 
@@ -76,9 +80,7 @@ filter-fault-spec =
     shared-slice-read-if2-2
     returns-2
     returns-3
-    cast-if4
-    mul-if4
-    add-if4
+    filter-words-requires
     returns-4
     sub-tests-fault
     part-tests-fault-start

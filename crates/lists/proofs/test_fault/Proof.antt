@@ -7,16 +7,17 @@ use borrow.Author.Needs.{needs}
 use lib.Bits.{bitAnd}
 use lib.Dec.{ltb, eqb}
 use borrow.Author.Tests.{le-leb, lt-leb}
-use Rattle.fields.specs.Widths.{full as fullOf}
+use Rattle.fields.specs.Widths.{fieldCount, full as fullOf}
+use Rattle.lists.specs.Filters.{kindAtLeast}
 use Rattle.lists.specs.Refusals.{masked, testFault}
 use Rattle.lists.proofs.test_fault.Statement.{statement}
 use Rattle.lists.proofs.test_fault.Tie as tie
 
 -- After the first three tests the fault is that of the last two.
-last-two : (k f m v full : ℕ) → (eqb k 0 || ltb 4 k) ≡ false → f < 14 → cond (masked k) (eqb m 0) (not (eqb m 0)) ≡ false → full ≡ fullOf f →
+last-two : (k f m v full : ℕ) → (eqb k 0 || ltb kindAtLeast k) ≡ false → f < fieldCount → cond (masked k) (eqb m 0) (not (eqb m 0)) ≡ false → full ≡ fullOf f →
     testFault k f m v ≡ cond (ltb full m || ltb full v) 8 (cond (masked k && not (eqb (bitAnd v m) v)) 9 0)
 unfolding testFault
-last-two k f m v full p q r s = rw (p, lt-leb 14 f q, r, s)
+last-two k f m v full p q r s = rw (p, lt-leb fieldCount f q, r, s)
 
 returns : tie.Need-returns
 unfolding testFault
