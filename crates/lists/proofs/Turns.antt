@@ -3,7 +3,7 @@
 --   tests-turn, tests-found      the next test has no fault; it has one
 --   list-turn, list-found        the next filter has no fault; it has one
 -- Assumes nothing.
-use Prim.Native.Nat.{ℕ, zero, suc, _+_, _-_, _*_, _≤_, _<_}
+use Prim.Native.Nat.{ℕ, zero, suc, _+_, _-_, _<_}
 use mathlib.Core.Path.{_≡_, _∙_}
 use mathlib.Core.List.{List}
 use native.Mathlib.Nat.{add-zero, not-suc-le-zero, le-refl}

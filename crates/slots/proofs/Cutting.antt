@@ -12,7 +12,6 @@ use lib.ListN.{length, getD, set, take, drop, replicate, length-append, length-s
 use lib.Seq.{sets-eq, take-suc-set, take-all, take-at, append-snoc, length-take-le, getD-drop, drop-drop}
 use borrow.Author.Tests.{eqb-true, eq-eqb, ne-eqb}
 use Rattle.residue.specs.Residues.{residueBy}
-use Rattle.residue.specs.declared.Test.{Test}
 use Rattle.residue.specs.declared.Fact.{Fact}
 use Rattle.residue.specs.declared.Residue.{Residue}
 use Rattle.residue.specs.declared.Residue.the-variants.{True, False, Left}

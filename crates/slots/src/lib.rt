@@ -3,11 +3,11 @@
 ghost use mathlib.Core.Path.{_≡_};
 ghost use mathlib.Core.Bool.{cond};
 ghost use mathlib.Core.List.{_∷_, [], _++_, map};
-ghost use Prim.Native.Nat.{_+_, _*_, _≤_};
-ghost use lib.ListN.{length, drop, getD};
+ghost use Prim.Native.Nat.{_*_, _≤_};
+ghost use lib.ListN.{length, drop};
 ghost use Rattle.lists.specs.Filters.{filtersOf};
 ghost use Rattle.states.specs.States.{allLeft};
-ghost use Rattle.slots.specs.Words.{filterSlot, outWords, written, writtenFilter};
+ghost use Rattle.slots.specs.Words.{filterSlot, outWords, written};
 ghost use Rattle.slots.specs.Slots.{heldSet, outSetIn, sureSetIn, closedIn, closedWords, questionIn, cutWords, stepWords, startWords, freshWords, sameWords};
 ghost use Rattle.slots.specs.Steps.{freshLength, markedSet, State, Ranked, Both, Stepped, Recorded, Starts};
 use filter::OUT;

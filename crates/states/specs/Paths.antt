@@ -9,7 +9,7 @@ use mathlib.Core.List.{List}
 use lib.Dec.{ltb}
 use lib.ListN.{length}
 use Rattle.residue.specs.declared.Reading.{Reading}
-use Rattle.sets.specs.Sets.{setOf, tally, member}
+use Rattle.sets.specs.Sets.{setOf, member}
 use Rattle.sets.specs.Laws.{tally-ext, member-tally}
 use Rattle.lists.specs.inner.Well.{wellFilters}
 use Rattle.lists.specs.Filters.{Filter, testsIn}

@@ -5,7 +5,7 @@
 --   At ws n i at      the words ws are an accepted list of n filters, and filter i begins at the place at
 --   Here ws at        what a filter has that begins there: its words are in the list, and its tests are few
 --   at-start, at-next, at-here, at-rest, at-end   a loop over an accepted list: its start, its turn, what it may read, what it has before it, its end
-use Prim.Native.Nat.{ℕ, zero, suc, _+_, _-_, _*_, _≤_, _<_}
+use Prim.Native.Nat.{ℕ, zero, suc, _+_, _-_, _≤_, _<_}
 use native.Mathlib.Nat.{not-suc-le-zero}
 use native.Mathlib.Omega.{arith}
 use mathlib.Core.Path.{_≡_, refl, sym, ap, ap₂, _∙_}

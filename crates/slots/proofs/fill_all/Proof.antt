@@ -100,11 +100,12 @@ loop-again c =
     let m = f .fill .kept .1 .1 .1 .0 ∙ part-long (filterSlot * l .i) (l .dst) r in
     let p = f .fill .last .1 .1 .1 .0 in
     let e = rw (d .count-at .ensures) at (f .fill .ensures) in
-    rw (c .filter-words .ensures, d .count-at .ensures)
-    (omega arith,
-    lent-long (l .i) (l .dst) p r m ∙ l .inv .1,
-    at-next (a .list .now) (a .n) (l .i) (l .at) (l .inv .2) h,
-    fill-turn (a .list .now) (a .n) (l .i) (l .at) (l .inv .2) h (filterSlot * l .i + filterSlot - filterSlot * l .i) (l .dst) p (written (map allLeft (filtersOf (a .list .now)))) (l .inv .1) m e (l .inv .3))
+    rw (c .filter-words .ensures, d .count-at .ensures) (
+      omega arith,
+      lent-long (l .i) (l .dst) p r m ∙ l .inv .1,
+      at-next (a .list .now) (a .n) (l .i) (l .at) (l .inv .2) h,
+      fill-turn (a .list .now) (a .n) (l .i) (l .at) (l .inv .2) h (filterSlot * l .i + filterSlot - filterSlot * l .i) (l .dst) p (written (map allLeft (filtersOf (a .list .now)))) (l .inv .1) m e (l .inv .3),
+    )
 
 same-length : tie.Need-same-length Inv-loop μ-loop
 same-length c = c .before .loop .inv .1 ∙ sym (c .before .before .before .before .pre .target)
