@@ -1,6 +1,6 @@
 -- Groups and levels read into two columns, and ranks worked out from the columns.
 --   filters-turn, filters-end    the filters from a place on: one and the rest; none
---   Partway                         what has been written and what is still to be read make the whole
+--   Partway                      what has been written and what is still to be read make the whole
 --   partway-start, partway-turn, partway-end
 --   ranks-agree                  the columns give the list's own ranks
 -- Assumes nothing.

@@ -4,8 +4,8 @@
 --   list-turn, list-found        the next filter has no fault; it has one
 -- Assumes nothing.
 use Prim.Native.Nat.{ℕ, zero, suc, _+_, _-_, _<_}
-use mathlib.Core.Path.{_≡_, _∙_}
-use mathlib.Core.List.{List}
+use mathlib.Core.Path.{_≡_, refl, _∙_}
+use mathlib.Core.List.{List, [], _∷_}
 use native.Mathlib.Nat.{add-zero, not-suc-le-zero, le-refl}
 use native.Mathlib.Omega.{arith}
 use lib.ListN.{length, getD, take, drop, length-drop}
@@ -13,7 +13,7 @@ use lib.Seq.{getD-drop, drop-drop, take-all}
 use borrow.Author.Tests.{eq-eqb, ne-eqb}
 use Rattle.lists.specs.Filters.{maxFilters, testWords, countWord, filterWords}
 use Rattle.lists.specs.Refusals.{testFault, wordsFault, testsFault, filterFault, listedFrom}
-use Rattle.lists.specs.laws.Walking.{listed-step, listed-full}
+use Rattle.lists.specs.laws.Walking.{listed-step}
 use Rattle.lists.specs.declared.Listed.the-variants.{Refused}
 
 pub words-at : (ws : List ℕ) (at : ℕ) → testFault (getD ws at 0) (getD ws (at + 1) 0) (getD ws (at + 2) 0) (getD ws (at + 3) 0) ≡ wordsFault (drop at ws)
@@ -47,6 +47,12 @@ list-found ws at i t h l e =
     rw z
     (listed-step (maxFilters - (i + 1)) i t (drop at ws) (rw length-drop (omega arith)) ∙
     rw (ne-eqb (filterFault (drop at ws)) 0 e))
+
+-- No filter may follow the last.
+listed-full : (i t : ℕ) (ws : List ℕ) → 0 < length ws → listedFrom 0 i t ws ≡ Refused 1 i
+unfolding listedFrom
+listed-full i t [] l = absurd (not-suc-le-zero l)
+listed-full i t (w ∷ ws) l = refl
 
 pub list-over : (ws : List ℕ) (at i t : ℕ) → i ≡ maxFilters → at < length ws → listedFrom (maxFilters - i) i t (drop at ws) ≡ Refused 1 i
 list-over ws at i t h l =

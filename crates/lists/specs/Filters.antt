@@ -78,10 +78,7 @@ valueWord ws = getD ws 3 0
 
 -- Refusal 5 leaves no other kind.
 unfoldable pub testOf : ℕ → ℕ → ℕ → Test
-testOf k m v =
-    cond (eqb k kindEqual) (Equal m v)
-    (cond (eqb k kindDiffers) (Differs m v)
-    (cond (eqb k kindAtMost) (AtMost v) (AtLeast v)))
+testOf k m v = cond (eqb k kindEqual) (Equal m v) (cond (eqb k kindDiffers) (Differs m v) (cond (eqb k kindAtMost) (AtMost v) (AtLeast v)))
 
 unfoldable pub itemOf : List ℕ → Item
 itemOf ws = record { field = fieldWord ws; test = testOf (kindWord ws) (maskWord ws) (valueWord ws) }

@@ -6,13 +6,13 @@ ghost use lib.Dec.{eqb};
 ghost use lib.ListN.{length, getD, drop};
 ghost use Rattle.sets.specs.Sets.{setOf, tally};
 ghost use Rattle.lists.specs.Filters.{maxFilters, headWords, testWords, countWord, testOf, itemOf, filtersOf};
-ghost use Rattle.lists.specs.inner.Columns.{Heads, aboveBy, rankSetBy};
-ghost use Rattle.lists.specs.Ranks.{rankSets};
 ghost use Rattle.lists.specs.Refusals.{masked, testFault, wordsFault, testsFault, filterFault, listed};
+ghost use Rattle.lists.specs.Ranks.{rankSets};
+ghost use Rattle.lists.specs.inner.Columns.{Heads, aboveBy, rankSetBy};
 use residue::Test;
 use sets::Set;
 
-// The most filters of a list, tests of a filter, and groups and levels.
+// The most filters of a list and tests of a filter; the greatest group and level.
 pub const MAX_FILTERS: usize = 32;
 
 pub const MAX_TESTS: usize = 8;
@@ -45,7 +45,7 @@ pub const AT_MOST: u32 = 3;
 
 pub const AT_LEAST: u32 = 4;
 
-// As a word of the list says them.
+// The first two as words.
 const FILTERS: u32 = MAX_FILTERS as u32;
 
 const TESTS: u32 = MAX_TESTS as u32;

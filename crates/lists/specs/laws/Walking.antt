@@ -1,10 +1,11 @@
 -- A list read filter by filter, from the front.
---   listed-step, listed-end, listed-full     the check from one place on: one filter; the end; words behind the last filter that may be
---   filters-step, filters-none               the filters from one place on
+--   listed-step, listed-end         the check from one place on: one filter, the end
+--   filters-step, filters-none      the filters from one place on
 --   accepted-head, accepted-rest, accepted-last   one filter off an accepted list
---   At ws n i at      the words ws are an accepted list of n filters, and filter i begins at the place at
---   Here ws at        what a filter has that begins there: its words are in the list, and its tests are few
---   at-start, at-next, at-here, at-rest, at-end   a loop over an accepted list: its start, its turn, what it may read, what it has before it, its end
+--   At ws n i at      the words ws are an accepted list of n filters, and filter i begins at the place at, or the list ends there
+--   Here ws at        a filter begins there: its words are in the list, and its tests are few
+--   at-start, at-next, at-end       a loop over an accepted list: its start, its turn, its end
+--   at-here, at-rest                what the loop may read, and the filters that it still has before it
 use Prim.Native.Nat.{ℕ, zero, suc, _+_, _-_, _≤_, _<_}
 use native.Mathlib.Nat.{not-suc-le-zero}
 use native.Mathlib.Omega.{arith}
@@ -30,11 +31,6 @@ pub listed-end : (n i t : ℕ) → listedFrom n i t [] ≡ Accepted i t
 unfolding listedFrom
 listed-end zero i t = refl
 listed-end (suc n) i t = refl
-
-pub listed-full : (i t : ℕ) (ws : List ℕ) → 0 < length ws → listedFrom 0 i t ws ≡ Refused 1 i
-unfolding listedFrom
-listed-full i t [] l = absurd (not-suc-le-zero l)
-listed-full i t (w ∷ ws) l = refl
 
 -- The filters from the front.
 pub filters-step : (n : ℕ) (ws : List ℕ) → 0 < length ws → filtersFrom (suc n) ws ≡ filterOf ws ∷ filtersFrom n (drop (filterWords ws) ws)
