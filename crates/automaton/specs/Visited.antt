@@ -5,8 +5,9 @@ use Prim.Native.Nat.{ℕ, zero, suc, _<_}
 use native.Mathlib.Omega.{arith}
 use native.Mathlib.Nat.{not-suc-le-zero}
 use mathlib.Core.Path.{_≡_, refl, sym, _∙_}
-use mathlib.Core.Bool.{Bool, true, false, _||_, false≢true}
+use mathlib.Core.Bool.{Bool, true, false, false≢true}
 use mathlib.Core.List.{List, [], _∷_, _++_, append-assoc, append-nil}
+use Rattle.residue.specs.Choice.{neither}
 use Rattle.residue.specs.declared.Outcome.{Outcome}
 use Rattle.residue.specs.declared.Outcome.the-variants.{Holds, Fails, Absent}
 use Rattle.automaton.specs.Machines.{Machine, meets, visit, visitWays}
@@ -89,19 +90,12 @@ apart-append : (M : Machine) (x s : M .State) {l : List (M .State)} → Apart M 
 apart-append M x s apart-none e = apart-more e apart-none
 apart-append M x s (apart-more d ds) e = apart-more d (apart-append M x s ds e)
 
-or-false-l : (a b : Bool) → (a || b) ≡ false → a ≡ false
-or-false-l true b e = e
-or-false-l false b e = refl
-
-or-false-r : (a b : Bool) → (a || b) ≡ false → b ≡ false
-or-false-r true b e = absurd (false≢true (sym e))
-or-false-r false b e = e
-
 pub distinct-append : (M : Machine) (s : M .State) {l : List (M .State)} → Distinct M l → meets M l s ≡ false → Distinct M (l ++ s ∷ [])
 unfolding meets
 distinct-append M s distinct-none e = distinct-more apart-none distinct-none
 distinct-append M s (distinct-more {x = x} {xs = xs} a d) e =
-    distinct-more (apart-append M x s a (or-false-l _ (meets M xs s) e)) (distinct-append M s d (or-false-r (M .same x s) _ e))
+    let n = neither (M .same x s) (meets M xs s) e in
+    distinct-more (apart-append M x s a (n .0)) (distinct-append M s d (n .1))
 
 pub visit-distinct : (M : Machine) (f : ℕ) (met : List (M .State)) (s : M .State) → Distinct M met → Distinct M (visit M f met s)
 unfolding visit visitWays

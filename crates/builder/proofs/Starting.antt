@@ -6,7 +6,8 @@ use mathlib.Core.List.{List}
 use native.Mathlib.Omega.{arith}
 use lib.ListN.{length}
 use Rattle.lists.specs.Filters.{maxFilters, filtersOf}
-use Rattle.lists.specs.Laws.{accepted-count, length-rankSets}
+use Rattle.lists.specs.laws.Accepted.{accepted-count}
+use Rattle.lists.specs.laws.Ranking.{length-rankSets}
 use Rattle.tables.specs.Tables.{recordWords}
 use Rattle.slots.specs.Words.{filterSlot, slotWords}
 use Rattle.slots.specs.Steps.{Starts}

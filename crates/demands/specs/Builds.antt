@@ -9,15 +9,15 @@ use lib.Dec.{ltb}
 use lib.ListN.{length}
 use borrow.Author.Tests.{ltb-true, ltb-false}
 use Rattle.lists.specs.Filters.{Filter, filtersOf}
-use Rattle.lists.specs.Accepted.{wellFilters}
+use Rattle.lists.specs.inner.Well.{wellFilters}
 use Rattle.lists.specs.Refusals.{listed}
-use Rattle.lists.specs.Laws.{accepted-well}
+use Rattle.lists.specs.laws.Accepted.{accepted-well}
 use Rattle.lists.specs.declared.Listed.{Listed}
 use Rattle.lists.specs.declared.Listed.the-variants as L
 use Rattle.tables.specs.Tables.{slotsOf}
 use Rattle.machine.specs.Box.{statesOf}
 use Rattle.builder.specs.Outcome.{Left, scratchWords, refused, noRoom, placed, accepted, outcomeBy, outcome}
-use Rattle.lists.specs.Faults.{Faulty, listed-faulty}
+use Rattle.lists.specs.laws.Faults.{Faulty, listed-faulty}
 
 pub record Success (l t s : List ℕ) : Type 0 where
   pub well : wellFilters (filtersOf l) ≡ true

@@ -17,7 +17,7 @@ use Rattle.sets.specs.Sets.{member}
 use Rattle.lists.specs.Filters.{Item, Filter, filtersOf, testsIn}
 use Rattle.lists.specs.Ranks.{matches}
 use Rattle.lists.specs.Refusals.{listed}
-use Rattle.lists.specs.Laws.{accepted-well}
+use Rattle.lists.specs.laws.Accepted.{accepted-well}
 use Rattle.lists.specs.declared.Listed.the-variants.{Accepted}
 use Rattle.states.specs.States.{State, start, ask, questionOf, step, isOpen}
 use Rattle.states.specs.Runs.{run, askedIn, follow}

@@ -10,7 +10,8 @@ use lib.ListN.{length, getD, replicate, length-append, getD-replicate, List·get
 use borrow.Author.Tests.{ltb-false, le-ltb}
 use Rattle.residue.specs.declared.Outcome.{Outcome}
 use Rattle.residue.specs.declared.Outcome.the-variants.{Holds, Fails, Absent}
-use Rattle.lists.specs.Accepted.{wellFilters, itemWords}
+use Rattle.lists.specs.Words.{itemWords}
+use Rattle.lists.specs.inner.Well.{wellFilters}
 use Rattle.lists.specs.Filters.{Item, Filter}
 use Rattle.states.specs.States.{State, Question, nothing, ask, questionOf, start, stepBy, sureSet, outSet}
 use Rattle.states.specs.Runs.{asks}

@@ -4,7 +4,7 @@ use mathlib.Core.Bool.{true}
 use mathlib.Core.List.{List}
 use Rattle.residue.specs.declared.Outcome.{Outcome}
 use Rattle.lists.specs.Filters.{Item, Filter}
-use Rattle.lists.specs.Accepted.{wellFilters}
+use Rattle.lists.specs.inner.Well.{wellFilters}
 use Rattle.states.specs.States.{State, start, ask, questionOf, step}
 use Rattle.states.specs.Runs.{follow}
 use Rattle.states.specs.Laws.{never-twice, step-ask, well-start, well-follow}

@@ -12,15 +12,13 @@ use lib.ListN.{getD}
 use borrow.Author.Tests.{ltb-true, lt-ltb, lt-leb}
 use Rattle.residue.specs.Tests.{holds}
 use Rattle.residue.specs.Facts.{outcomeOf}
-use Rattle.residue.specs.declared.Test.{Test}
-use Rattle.residue.specs.declared.Test.the-variants.{Equal, Differs, AtMost, AtLeast}
 use Rattle.residue.specs.declared.Reading.{Reading}
 use Rattle.residue.specs.declared.Reading.the-variants as R
 use Rattle.residue.specs.declared.Outcome.the-variants.{Holds, Fails, Absent}
 use Rattle.fields.specs.Widths.{fieldCount}
-use Rattle.lists.specs.Accepted.{kindOf, itemWords}
+use Rattle.lists.specs.Words.{kindOf, itemWords}
 use Rattle.lists.specs.Filters.{Item, Filter, itemOf}
-use Rattle.lists.specs.Laws.{item-round}
+use Rattle.lists.specs.laws.Items.{kind-some, kind-known, item-round}
 use Rattle.states.specs.States.{State, nothing, questionOf, sureSet, outSet}
 use Rattle.states.specs.Runs.{wayOf}
 use Rattle.states.specs.Choices.{Leads, leads-none, leads-more, Chosen, OfFrame}
@@ -30,14 +28,6 @@ use Rattle.tables.specs.Tables.{wordOf, kindAt, fieldAt, holdsAt, failsAt}
 use Rattle.matcher.specs.Walk.{damaged, nextBy, nextOf, walkFrom}
 use Rattle.labels.specs.Labels.{questionAt, wayAt, FinalRecord, AskingRecord, LabelledBy, endedBy, shownAt}
 use Rattle.labels.specs.Walks.{walk-ends, walk-stops, walk-goes}
-
--- The kind of a test is one of four.
-kind-range : (t : Test) → (ltb 4 (kindOf t) ≡ false) × (eqb (kindOf t) 0 ≡ false)
-unfolding kindOf
-kind-range (Equal m v) = (refl, refl)
-kind-range (Differs m v) = (refl, refl)
-kind-range (AtMost v) = (refl, refl)
-kind-range (AtLeast v) = (refl, refl)
 
 -- ---- the words of a question
 
@@ -54,11 +44,11 @@ module _ (t : List ℕ) (n : ℕ) (q : Item) (words : questionAt t n ≡ itemWor
   field-at = ap (λ (x : Item). x .field) item-at
 
   not-final : eqb (wordOf t n kindAt) 0 ≡ false
-  not-final = rw kind-at (kind-range (q .test) .1)
+  not-final = rw kind-at (kind-some (q .test))
 
   undamaged : q .field < fieldCount → damaged t n ≡ false
   unfolding damaged
-  undamaged inside = rw (kind-at, field-at, kind-range (q .test) .0, kind-range (q .test) .1, lt-leb fieldCount (q .field) inside)
+  undamaged inside = rw (kind-at, field-at, kind-known (q .test), kind-some (q .test), lt-leb fieldCount (q .field) inside)
 
   next-by : (x : Reading) → nextBy t n x ≡ wayAt t n (outcomeOf (q .test) x)
   unfolding nextBy wayAt outcomeOf questionAt itemOf

@@ -15,7 +15,7 @@ use lib.ListN.{length}
 use Rattle.residue.specs.declared.Outcome.{Outcome}
 use Rattle.residue.specs.declared.Outcome.the-variants.{Holds, Fails, Absent}
 use Rattle.fields.specs.Bytes.{Bytes}
-use Rattle.lists.specs.Accepted.{itemWords}
+use Rattle.lists.specs.Words.{itemWords}
 use Rattle.lists.specs.Filters.{Item, Filter}
 use Rattle.states.specs.States.{State, start, Question, nothing, ask, questionOf, stepBy, sureSet, outSet}
 use Rattle.states.specs.Choices.{Chosen}

@@ -15,7 +15,7 @@ use Rattle.residue.specs.declared.Reading.{Reading}
 use Rattle.fields.specs.Fields.{field}
 use Rattle.fields.specs.laws.Values.{value-in-width}
 use Rattle.sets.specs.Sets.{member}
-use Rattle.lists.specs.Accepted.{wellFilters}
+use Rattle.lists.specs.inner.Well.{wellFilters}
 use Rattle.lists.specs.Filters.{Item, Filter, testsIn}
 use Rattle.lists.specs.Ranks.{fires, matches}
 use Rattle.states.specs.States.{State, start, Question, nothing, ask, questionOf, standing, isOut, sure, isOpen, sureSet, outSet}

@@ -10,9 +10,9 @@ use mathlib.Core.List.{List, [], _∷_, map}
 use lib.Dec.{leb}
 use lib.ListN.{length}
 use Rattle.lists.specs.Filters.{Filter, filtersOf, maxFilters, testsIn}
-use Rattle.lists.specs.Accepted.{wellFilters}
+use Rattle.lists.specs.inner.Well.{wellFilters}
 use Rattle.lists.specs.Refusals.{listed}
-use Rattle.lists.specs.Laws.{accepted-count, accepted-well}
+use Rattle.lists.specs.laws.Accepted.{accepted-count, accepted-well}
 use Rattle.lists.specs.declared.Listed.the-variants.{Accepted}
 use Rattle.lists.specs.Ranks.{rankSets}
 use Rattle.states.specs.States.{start}

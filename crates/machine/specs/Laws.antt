@@ -7,7 +7,8 @@ use mathlib.Core.Bool.{true}
 use mathlib.Core.List.{List}
 use lib.ListN.{length, getD}
 use Rattle.residue.specs.declared.Outcome.{Outcome}
-use Rattle.lists.specs.Accepted.{itemWords, wellFilters}
+use Rattle.lists.specs.Words.{itemWords}
+use Rattle.lists.specs.inner.Well.{wellFilters}
 use Rattle.lists.specs.Filters.{Filter}
 use Rattle.states.specs.States.{State, Question, nothing, ask, questionOf, start, step, remaining}
 use Rattle.states.specs.Laws.{wellState, well-start, well-step, length-start, length-step, start-remaining, next-falls, step-keeps, same-state-eq, same-state-refl}

@@ -10,7 +10,7 @@ use lib.ListN.{length}
 use Rattle.residue.specs.declared.Outcome.{Outcome}
 use Rattle.lists.specs.Filters.{Filter, filtersOf, maxFilters}
 use Rattle.lists.specs.Refusals.{listed}
-use Rattle.lists.specs.Laws.{accepted-count, accepted-well}
+use Rattle.lists.specs.laws.Accepted.{accepted-count, accepted-well}
 use Rattle.lists.specs.declared.Listed.the-variants.{Accepted}
 use Rattle.lists.specs.Ranks.{rankSets}
 use Rattle.states.specs.States.{State, start, remaining}

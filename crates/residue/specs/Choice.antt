@@ -1,7 +1,7 @@
--- Small laws of tests: a choice by a test, two tests that say the same, a conjunction and its parts.
+-- Small laws of tests: a choice by a test, two tests that say the same, a conjunction and a disjunction and their parts.
 use Prim.Native.Nat.{ℕ}
-use mathlib.Core.Path.{_≡_, refl, sym}
-use mathlib.Core.Bool.{Bool, true, false, cond, _&&_, false≢true, and-eq-true-iff}
+use mathlib.Core.Path.{_≡_, refl, sym, _∙_}
+use mathlib.Core.Bool.{Bool, true, false, cond, _&&_, _||_, false≢true, true≢false, and-eq-true-iff}
 use lib.Dec.{eqb}
 use borrow.Author.Tests.{eqb-true, eq-eqb}
 
@@ -31,3 +31,20 @@ first a b e = and-eq-true-iff a b .0 e .0
 
 pub second : (a b : Bool) → a && b ≡ true → b ≡ true
 second a b e = and-eq-true-iff a b .0 e .1
+
+pub neither : (a b : Bool) → (a || b) ≡ false → (a ≡ false) × (b ≡ false)
+neither true b e = absurd (true≢false e)
+neither false b e = (refl, e)
+
+-- One of two tests holds.
+pub either : (P : Type 0) (a b : Bool) → (a ≡ true → P) → (b ≡ true → P) → (a || b) ≡ true → P
+either P true b f g e = f refl
+either P false b f g e = g e
+
+-- A test decides.
+pub by-test : (P : Type 0) (b : Bool) → (b ≡ true → P) → (b ≡ false → P) → P
+by-test P true f g = f refl
+by-test P false f g = g refl
+
+pub clash : {P : Type 0} (b : Bool) → b ≡ true → b ≡ false → P
+clash b e z = absurd (false≢true (sym z ∙ e))

@@ -2,7 +2,7 @@
 --   fitsStanding x, fitsSlot s   at most 8 tests remain, of one filter and of each
 use Prim.Native.Nat.{ℕ, _+_, _≤_}
 use mathlib.Core.Path.{_≡_, refl}
-use mathlib.Core.Bool.{Bool, true, false, cond, _&&_}
+use mathlib.Core.Bool.{Bool, true, cond, _&&_}
 use mathlib.Core.List.{List, [], _∷_, map}
 use native.Mathlib.Omega.{arith}
 use lib.Dec.{leb}
@@ -12,8 +12,8 @@ use Rattle.residue.specs.Choice.{both, first, second}
 use Rattle.residue.specs.declared.Fact.{Fact}
 use Rattle.residue.specs.declared.Outcome.{Outcome}
 use Rattle.lists.specs.Filters.{Item, Filter, maxTests}
-use Rattle.lists.specs.Accepted.{wellFilter, wellFilters}
-use Rattle.lists.specs.Laws.{well-few}
+use Rattle.lists.specs.inner.Well.{wellFilter, wellFilters}
+use Rattle.lists.specs.laws.Accepted.{well-few}
 use Rattle.states.specs.States.{Standing, out, State, cutStanding, beaten, closedFrom, closed, allLeft, start, stepBy, remainingIn, step}
 use Rattle.states.specs.Laws.{step-keeps}
 use Rattle.states.specs.Measure.{cutStanding-le, closed-le}

@@ -25,17 +25,20 @@ use Rattle.sets.specs.Sets.{setOf, tally, some}
 use Rattle.sets.specs.Laws.{tally-ext, tally-bound, minus-tally, zero-tally}
 use Rattle.lists.specs.Filters.{Item, Filter, maxFilters, testWords, itemOf, filtersOf}
 use Rattle.lists.specs.Ranks.{above, rankSets}
-use Rattle.lists.specs.Accepted.{itemWords, wellFilters}
+use Rattle.lists.specs.Words.{itemWords}
+use Rattle.lists.specs.inner.Well.{wellFilters}
 use Rattle.lists.specs.Refusals.{listed}
 use Rattle.lists.specs.declared.Listed.the-variants.{Accepted}
-use Rattle.lists.specs.Laws.{accepted-count, accepted-well, item-round, getD-rankSets, rankSet-in, rankSet-clear}
+use Rattle.lists.specs.laws.Accepted.{accepted-count, accepted-well}
+use Rattle.lists.specs.laws.Items.{kind-some, item-round}
+use Rattle.lists.specs.laws.Ranking.{getD-rankSets, rankSet-in, rankSet-clear}
 use Rattle.states.specs.States.{Standing, out, left, State, standing, isHeld, isOut, cutStanding, beaten, closedFrom, closed, allLeft, start, Question, nothing, ask, questionOf, stepBy, stepAt, step, sure, sureSet, outSet}
 use Rattle.states.specs.Runs.{asks}
 use Rattle.states.specs.Same.{sameState, same-state-eq, same-state-refl}
 use Rattle.slots.specs.Words.{filterSlot, outMark, itemsWords, outWords, writtenFilter, written, readFilter}
 use Rattle.slots.specs.Slots.{headOf, heldSet, outSetIn, sureSetIn, closedIn, closedWords, hasTest, fourWords, questionIn, asksIn, cutWords, stepQuestion, stepWords, startWords, freshWords, sameWords}
 pub use Rattle.slots.specs.Fitting.{fitsStanding, fitsSlot, fits-cut, fits-closed, fits-step, fits-next, fits-all, fits-start}
-pub use Rattle.slots.specs.Reading.{length-filter, length-written, take-filter, drop-filter, held-word, out-word, kind-some, kind-mark, read-filter, read-written, written-injective}
+pub use Rattle.slots.specs.Reading.{length-filter, length-written, take-filter, drop-filter, held-word, out-word, kind-mark, read-filter, read-written, written-injective}
 
 -- ---- sets
 

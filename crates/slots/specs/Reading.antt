@@ -1,5 +1,5 @@
 -- Words written and read back: a state that fits its slot is read back as it was, so equal words are equal states.
-use Prim.Native.Nat.{ℕ, zero, suc, _+_, _*_, _-_, _≤_}
+use Prim.Native.Nat.{ℕ, zero, suc, _*_, _-_, _≤_}
 use mathlib.Core.Path.{_≡_, refl, sym, ap, ap₂, _∙_}
 use mathlib.Core.Bool.{Bool, true, false, cond}
 use mathlib.Core.List.{List, [], _∷_, _++_}
@@ -12,8 +12,8 @@ use Rattle.residue.specs.Choice.{first, second}
 use Rattle.residue.specs.declared.Test.{Test}
 use Rattle.residue.specs.declared.Test.the-variants.{Equal, Differs, AtMost, AtLeast}
 use Rattle.lists.specs.Filters.{Item, maxTests, testWords, itemOf}
-use Rattle.lists.specs.Accepted.{kindOf, itemWords}
-use Rattle.lists.specs.Laws.{item-round}
+use Rattle.lists.specs.Words.{kindOf, itemWords}
+use Rattle.lists.specs.laws.Items.{kind-some, item-round}
 use Rattle.states.specs.States.{Standing, out, left, State, isHeld, isOut, remainingIn}
 use Rattle.slots.specs.Words.{filterSlot, outMark, itemsWords, outWords, writtenFilter, written, readItems, readFilter, readState}
 use Rattle.slots.specs.Fitting.{fitsStanding, fitsSlot, fits-le}
@@ -48,13 +48,6 @@ pub drop-filter : (x : Standing) (s : State) → fitsStanding x ≡ true → dro
 drop-filter x s e = drop-at (writtenFilter x) (written s) filterSlot (length-filter x e)
 
 -- ---- the first word
-
-pub kind-some : (t : Test) → eqb (kindOf t) 0 ≡ false
-unfolding kindOf
-kind-some (Equal m v) = refl
-kind-some (Differs m v) = refl
-kind-some (AtMost v) = refl
-kind-some (AtLeast v) = refl
 
 pub kind-mark : (t : Test) → eqb (kindOf t) outMark ≡ false
 unfolding kindOf

@@ -21,7 +21,7 @@ use Rattle.residue.specs.declared.Fact.{Fact}
 use Rattle.residue.specs.declared.Outcome.{Outcome}
 use Rattle.fields.specs.Widths.{full}
 use Rattle.sets.specs.Sets.{setOf, tally}
-use Rattle.lists.specs.Filters.{Item, itemOf, filtersOf}
+use Rattle.lists.specs.Filters.{Item, kindWord, fieldWord, maskWord, valueWord, itemOf, filtersOf}
 use Rattle.states.specs.States.{cutStanding, allLeft}
 use Rattle.slots.specs.Words.{filterSlot, outMark, outWords, writtenFilter, written, readFilter}
 
@@ -51,7 +51,7 @@ unfoldable pub hasTest : List ℕ → Bool
 hasTest w = not (eqb (getD w 0 0) 0) && not (eqb (getD w 0 0) outMark)
 
 unfoldable pub fourWords : List ℕ → List ℕ
-fourWords w = getD w 0 0 ∷ getD w 1 0 ∷ getD w 2 0 ∷ getD w 3 0 ∷ []
+fourWords w = kindWord w ∷ fieldWord w ∷ maskWord w ∷ valueWord w ∷ []
 
 unfoldable pub questionIn : ℕ → List ℕ → List ℕ
 questionIn zero w = 0 ∷ 0 ∷ 0 ∷ 0 ∷ []

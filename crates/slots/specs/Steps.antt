@@ -20,7 +20,7 @@ use Rattle.residue.specs.declared.Residue.the-variants.{True, False, Left}
 use Rattle.fields.specs.Widths.{full}
 use Rattle.lists.specs.Filters.{Item, maxFilters, maxTests, testWords}
 use Rattle.lists.specs.Refusals.{listed}
-use Rattle.lists.specs.Accepted.{itemWords}
+use Rattle.lists.specs.Words.{itemWords}
 use Rattle.lists.specs.declared.Listed.the-variants.{Accepted}
 use Rattle.states.specs.States.{Standing, out, left, cut}
 use Rattle.sets.specs.Sets.{setOf, tally}

@@ -9,8 +9,8 @@ use mathlib.Core.Bool.{cond}
 use mathlib.Core.List.{List, [], _∷_, _++_}
 use lib.Dec.{eqb}
 use lib.ListN.{length, getD, take, drop, replicate}
-use Rattle.lists.specs.Filters.{Item, maxFilters, maxTests, testWords, itemOf}
-use Rattle.lists.specs.Accepted.{itemWords}
+use Rattle.lists.specs.Filters.{Item, maxFilters, maxTests, testWords, kindAtLeast, itemOf}
+use Rattle.lists.specs.Words.{itemWords}
 use Rattle.states.specs.States.{Standing, out, left, State}
 
 abbrev pub filterSlot : ℕ
@@ -21,7 +21,7 @@ slotWords = maxFilters * filterSlot
 
 -- No kind: the first word of a filter that is out. The first word of a held filter is 0.
 abbrev pub outMark : ℕ
-outMark = 5
+outMark = kindAtLeast + 1
 
 unfoldable pub itemsWords : List Item → List ℕ
 itemsWords [] = []

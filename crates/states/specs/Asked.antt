@@ -16,7 +16,7 @@ use Rattle.residue.specs.declared.Outcome.{Outcome}
 use Rattle.residue.specs.declared.Residue.{Residue}
 use Rattle.residue.specs.declared.Residue.the-variants.{True, False, Left}
 use Rattle.fields.specs.Widths.{full}
-use Rattle.lists.specs.Accepted.{wellItem}
+use Rattle.lists.specs.inner.Well.{wellItem}
 use Rattle.lists.specs.Filters.{Item, Filter}
 use Rattle.states.specs.States.{State, ask, questionOf, stepBy}
 use Rattle.states.specs.Runs.{wayOf, run, follow}

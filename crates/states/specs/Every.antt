@@ -6,7 +6,7 @@ use mathlib.Core.Path.{_≡_, refl, sym, subst}
 use mathlib.Core.Bool.{Bool, true, false, cond, _&&_, false≢true}
 use mathlib.Core.List.{List, [], _∷_, map}
 use lib.Dec.{eqb}
-use Rattle.residue.specs.Choice.{by-cond, both, first, second}
+use Rattle.residue.specs.Choice.{by-cond, both, first, second, either}
 use Rattle.residue.specs.Relations.{everyLeft}
 use Rattle.residue.specs.Residues.{residueBy}
 use Rattle.residue.specs.declared.Test.{Test}
@@ -19,7 +19,7 @@ use Rattle.lists.specs.Filters.{Item, Filter}
 use Rattle.states.specs.States.{Standing, out, left, State, standing, keep, join, cut, cutStanding, beaten, closedFrom, closed, ask, questionOf, stepBy}
 use Rattle.states.specs.Standings.{factBy}
 use Rattle.states.specs.Same.{sameItem, same-item-eq}
-use Rattle.states.specs.Choices.{among, leftIn, either}
+use Rattle.states.specs.Choices.{among, leftIn}
 use Rattle.states.specs.Keeps.{question-left}
 
 unfoldable pub everyItem : (Item → Bool) → List Item → Bool

@@ -23,8 +23,8 @@ pub use Rattle.states.specs.Well.{wellState, every-well, well-start, wel
 pub use Rattle.states.specs.Measure.{start-remaining, asking-remaining, none-remaining, left-falls, step-falls, next-falls, leads-falls, leads-tests, path-tests, run-ends, run-final, run-past, asked-past, asked-le, asked-remaining, asked-tests}
 pub use Rattle.states.specs.Runs.{asks, asksAll}
 pub use Rattle.states.specs.Truth.{Says, Tells, InWidths, held-fires, tells-start, tells-step, path-tells, tells-run}
-pub use Rattle.states.specs.Sure.{Shut, sure-held, sure-above, held-sure, matches-fires, matches-top, top-matches, sure-matches, out-not-matches, final-standing, final-sure, final-none-open}
+pub use Rattle.states.specs.Sure.{Shut, sure-held, sure-above, held-sure, sure-matches, out-not-matches, final-standing, final-sure, final-none-open}
 pub use Rattle.states.specs.Stays.{shut-closed, shut-start, shut-step, out-stays, sure-stays, leads-shut, leads-sure, leads-out, leads-length, run-shut, run-sure-stays, run-out-stays, length-run}
-pub use Rattle.states.specs.Paths.{after, matchSet, member-sure, member-out, member-match, PathTruth, path-truth, run-truth}
+pub use Rattle.states.specs.Paths.{after, member-sure, member-out, PathTruth, path-truth, run-truth}
 pub use Rattle.states.specs.Same.{sameList, sameItem, sameStanding, sameState, same-item-eq, same-item-refl, same-standing-eq, same-standing-refl, same-state-eq, same-state-refl}
 pub use Rattle.states.specs.Asked.{left-once, never-twice, run-never-twice}

@@ -10,7 +10,7 @@ use lib.Dec.{eqb}
 use lib.ListN.{length}
 use borrow.Author.Tests.{eq-eqb}
 use Rattle.residue.specs.Residues.{residueBy}
-use Rattle.residue.specs.Choice.{by-cond}
+use Rattle.residue.specs.Choice.{by-cond, either}
 use Rattle.residue.specs.Relations.{isSettled}
 use Rattle.residue.specs.Laws.{residue-own}
 use Rattle.residue.specs.declared.Reading.{Reading}
@@ -19,13 +19,13 @@ use Rattle.residue.specs.declared.Outcome.{Outcome}
 use Rattle.residue.specs.declared.Residue.{Residue}
 use Rattle.residue.specs.declared.Residue.the-variants.{True, False, Left}
 use Rattle.fields.specs.Widths.{full}
-use Rattle.lists.specs.Accepted.{wellItem, wellFilters}
+use Rattle.lists.specs.inner.Well.{wellItem, wellFilters}
 use Rattle.lists.specs.Filters.{Item, Filter, testsIn}
 use Rattle.states.specs.States.{Standing, out, left, State, keep, join, cut, cutStanding, beaten, closedFrom, closed, allLeft, start, Question, nothing, ask, questionOf, stepBy, step, remainingIn, remaining}
 use Rattle.states.specs.Runs.{advance, run, askedIn, asks, asksAll}
 use Rattle.states.specs.Standings.{factBy}
 use Rattle.states.specs.Same.{sameItem, same-item-eq}
-use Rattle.states.specs.Choices.{among, leftIn, Leads, leads-none, leads-more, Free, either, path-free}
+use Rattle.states.specs.Choices.{among, leftIn, Leads, leads-none, leads-more, Free, path-free}
 use Rattle.states.specs.Well.{wellState, item-test, well-start, well-left, well-step}
 use Rattle.states.specs.Keeps.{none-asked, by-question, question-left, step-ask, asked-none, asked-ask, run-picks, picks-run, run-path, run-ended, follow-leads}
 

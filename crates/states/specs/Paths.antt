@@ -1,6 +1,5 @@
 -- Demands 2 and 3 about one path of the frame whose field k reads r k, in one place, whichever remaining tests it asks.
 --   after fs r n        the state after n of document 01's questions
---   matchSet fs r       the match set as a bit set
 --   PathTruth fs r n s  what the state s promises that n questions have led to
 use Prim.Native.Nat.{ℕ, _+_, _≤_}
 use native.Mathlib.Omega.{arith}
@@ -10,11 +9,11 @@ use mathlib.Core.List.{List}
 use lib.Dec.{ltb}
 use lib.ListN.{length}
 use Rattle.residue.specs.declared.Reading.{Reading}
-use Rattle.sets.specs.Sets.{setOf, tally, member}
+use Rattle.sets.specs.Sets.{setOf, member}
 use Rattle.sets.specs.Laws.{tally-ext, member-tally}
-use Rattle.lists.specs.Accepted.{wellFilters}
+use Rattle.lists.specs.inner.Well.{wellFilters}
 use Rattle.lists.specs.Filters.{Filter, testsIn}
-use Rattle.lists.specs.Ranks.{matches}
+use Rattle.lists.specs.Ranks.{matches, matchSet}
 use Rattle.states.specs.States.{State, standing, isOut, start, nothing, questionOf, sure, isOpen, sureSet, outSet, remaining}
 use Rattle.states.specs.Runs.{run, askedIn}
 use Rattle.states.specs.Choices.{Path, path-free}
@@ -28,9 +27,6 @@ use Rattle.states.specs.Stays.{shut-start, leads-shut, leads-sure, leads
 abbrev pub after : List Filter → (ℕ → Reading) → ℕ → State
 after fs r n = run fs r n (start fs)
 
-unfoldable pub matchSet : List Filter → (ℕ → Reading) → ℕ
-matchSet fs r = setOf (tally (length fs) (λ i. matches fs r i))
-
 -- The sets by their members.
 pub member-sure : (fs : List Filter) (s : State) (i : ℕ) → member i (sureSet fs s) ≡ (ltb i (length fs) && sure fs s i)
 unfolding sureSet
@@ -39,10 +35,6 @@ member-sure fs s i = member-tally (length fs) (λ j. sure fs s j) i
 pub member-out : (fs : List Filter) (s : State) (i : ℕ) → member i (outSet fs s) ≡ (ltb i (length fs) && isOut (standing s i))
 unfolding outSet
 member-out fs s i = member-tally (length fs) (λ j. isOut (standing s j)) i
-
-pub member-match : (fs : List Filter) (r : ℕ → Reading) (i : ℕ) → member i (matchSet fs r) ≡ (ltb i (length fs) && matches fs r i)
-unfolding matchSet
-member-match fs r i = member-tally (length fs) (λ j. matches fs r j) i
 
 -- The state s that n questions of the frame have led to from the start, each any of the remaining tests that it met.
 pub record PathTruth (fs : List Filter) (r : ℕ → Reading) (n : ℕ) (s : State) : Type 0 where

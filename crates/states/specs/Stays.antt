@@ -4,7 +4,7 @@ use mathlib.Core.Path.{_≡_, refl, _∙_}
 use mathlib.Core.Bool.{Bool, true, false, cond, false≢true}
 use mathlib.Core.List.{List, [], _∷_, map}
 use lib.ListN.{length}
-use Rattle.residue.specs.Choice.{by-cond, never}
+use Rattle.residue.specs.Choice.{by-cond, never, clash}
 use Rattle.residue.specs.declared.Reading.{Reading}
 use Rattle.residue.specs.declared.Fact.{Fact}
 use Rattle.residue.specs.declared.Outcome.{Outcome}
@@ -14,7 +14,7 @@ use Rattle.states.specs.Runs.{run, askedIn}
 use Rattle.states.specs.Standings.{factBy, divided, step-closes, standing-divided, standing-closed, beaten-where, where-beaten, length-step, length-start}
 use Rattle.states.specs.Choices.{Leads, Free, leads-keeps, path-free}
 use Rattle.states.specs.Keeps.{run-path, run-further}
-use Rattle.states.specs.Sure.{clash, not-held-out, Shut, sure-held, sure-above, held-sure}
+use Rattle.states.specs.Sure.{not-held-out, Shut, sure-held, sure-above, held-sure}
 
 -- ---- closing
 

@@ -1,33 +1,24 @@
 -- What a state that tells the truth says of the match set: sure filters match, out filters do not, and at a final state nothing else is left.
---   Top fs r m i k     filter k fires, is i or ranks above it, and none below number m that fires ranks above k
 --   Shut fs s          every filter that ranks below a held one is out
 use Prim.Native.Nat.{ℕ, zero, suc, _<_}
-use mathlib.Core.Path.{_≡_, refl, sym, ap, _∙_, subst}
-use mathlib.Core.Logic.{_⊎_, inl, inr, ⊎-elim}
+use mathlib.Core.Path.{_≡_, refl, sym, ap, subst}
+use mathlib.Core.Logic.{⊎-elim}
 use mathlib.Core.Bool.{Bool, true, false, not, _&&_, false≢true}
 use mathlib.Core.List.{List, [], _∷_}
-use native.Mathlib.Nat.{not-suc-le-zero, eq-or-lt-of-le, le-of-suc-le-suc}
 use lib.Dec.{ltb}
 use lib.ListN.{length}
-use borrow.Author.Tests.{ltb-true, not-true}
-use Rattle.residue.specs.Choice.{never, same-bool, both, first, second}
+use borrow.Author.Tests.{not-true}
+use Rattle.residue.specs.Choice.{never, same-bool, both, first, second, by-test, clash}
 use Rattle.residue.specs.declared.Reading.{Reading}
 use Rattle.sets.specs.Sets.{some}
 use Rattle.sets.specs.Laws.{some-true, some-none}
 use Rattle.lists.specs.Filters.{Filter}
-use Rattle.lists.specs.Laws.{above-irreflexive, above-transitive}
-use Rattle.lists.specs.Ranks.{testsOf, above, allHold, fires, matches}
+use Rattle.lists.specs.laws.Ranking.{above-transitive}
+use Rattle.lists.specs.laws.Topmost.{fires-below, matches-fires, matches-top, top-matches, Top, topmost}
+use Rattle.lists.specs.Ranks.{above, fires, matches}
 use Rattle.states.specs.States.{Standing, out, left, State, standing, isHeld, isOut, nothing, questionOf, sure, isOpen}
 use Rattle.states.specs.Keeps.{none-asked}
 use Rattle.states.specs.Truth.{Says, Tells, held-fires}
-
--- A test decides.
-pub by-test : (P : Type 0) (b : Bool) → (b ≡ true → P) → (b ≡ false → P) → P
-by-test P true f g = f refl
-by-test P false f g = g refl
-
-pub clash : {P : Type 0} (b : Bool) → b ≡ true → b ≡ false → P
-clash b e z = absurd (false≢true (sym z ∙ e))
 
 pub not-held-out : (x : Standing) → isHeld x ≡ true → isOut x ≡ false
 unfolding isHeld isOut
@@ -39,35 +30,7 @@ unfolding isOut
 out-said fs r i out e t = t
 out-said fs r i (left ts) e t = absurd (false≢true e)
 
--- ---- firing, matching and sure, taken apart
-
-module _ (fs : List Filter) (r : ℕ → Reading) where
-  pub fires-below : (i : ℕ) → fires fs r i ≡ true → i < length fs
-  unfolding fires
-  fires-below i e = ltb-true i (length fs) (first (ltb i (length fs)) (allHold r (testsOf fs i)) e)
-
-  abbrev betters : ℕ → Bool
-  betters i = some (length fs) (λ j. above fs j i && fires fs r j)
-
-  pub matches-fires : (i : ℕ) → matches fs r i ≡ true → fires fs r i ≡ true
-  unfolding matches
-  matches-fires i e = first (fires fs r i) (not (betters i)) e
-
-  -- No filter that ranks above one that matches fires.
-  pub matches-top : (i : ℕ) → matches fs r i ≡ true → (j : ℕ) → above fs j i ≡ true → fires fs r j ≡ true → ⊥
-  unfolding matches
-  matches-top i e j a f =
-      clash (betters i)
-      (some-true (length fs) (λ k. above fs k i && fires fs r k) j (fires-below j f) (both (above fs j i) (fires fs r j) a f))
-      (not-true (betters i) (second (fires fs r i) (not (betters i)) e))
-
-  pub top-matches : (i : ℕ) → fires fs r i ≡ true → ((j : ℕ) → above fs j i ≡ true → fires fs r j ≡ true → ⊥) → matches fs r i ≡ true
-  unfolding matches
-  top-matches i e h =
-      both (fires fs r i) (not (betters i)) e
-      (ap not
-      (some-none (length fs) (λ j. above fs j i && fires fs r j)
-      (λ j _. never (above fs j i && fires fs r j) (λ z. h j (first (above fs j i) (fires fs r j) z) (second (above fs j i) (fires fs r j) z)))))
+-- ---- sure, taken apart
 
 module _ (fs : List Filter) where
   abbrev doubts : State → ℕ → Bool
@@ -99,50 +62,9 @@ module _ (fs : List Filter) where
       clash (isOut (standing s j)) (h j l (first (above fs j i) (not (isOut (standing s j))) z))
       (not-true (isOut (standing s j)) (second (above fs j i) (not (isOut (standing s j))) z))))))
 
--- ---- the topmost filter that fires
-
-pub record Top (fs : List Filter) (r : ℕ → Reading) (m i k : ℕ) : Type 0 where
-  pub fired : fires fs r k ≡ true
-  pub over : (k ≡ i) ⊎ (above fs k i ≡ true)
-  pub best : (j : ℕ) → j < m → above fs j k ≡ true → fires fs r j ≡ true → ⊥
+-- ---- the match set
 
 module _ (fs : List Filter) (r : ℕ → Reading) where
-  over-over : (i j k : ℕ) → above fs k j ≡ true → (j ≡ i) ⊎ (above fs j i ≡ true) → above fs k i ≡ true
-  over-over i j k a (inl e) = subst (λ (n : ℕ). above fs k n ≡ true) e a
-  over-over i j k a (inr b) = above-transitive fs k j i a b
-
-  climb : (m i k : ℕ) → Top fs r m i k → (k′ : ℕ) × Top fs r (suc m) i k′
-  climb m i k t =
-      by-test ((k′ : ℕ) × Top fs r (suc m) i k′) (above fs m k && fires fs r m)
-      (λ e.
-      let a = first (above fs m k) (fires fs r m) e in (
-        m,
-        record {
-          fired = second (above fs m k) (fires fs r m) e;
-          over = inr (over-over i k m a (t .over));
-          best = λ j l b f. ⊎-elim
-              (λ (z : j ≡ m). clash (above fs m m) (subst (λ (n : ℕ). above fs n m ≡ true) z b) (above-irreflexive fs m))
-              (λ (z : j < m). t .best j z (above-transitive fs j m k b a) f)
-              (eq-or-lt-of-le (le-of-suc-le-suc l));
-        },
-      ))
-      (λ e. (
-        k,
-        record {
-          fired = t .fired;
-          over = t .over;
-          best = λ j l b f. ⊎-elim
-              (λ (z : j ≡ m). clash (above fs m k && fires fs r m)
-              (both (above fs m k) (fires fs r m) (subst (λ (n : ℕ). above fs n k ≡ true) z b) (subst (λ (n : ℕ). fires fs r n ≡ true) z f)) e)
-              (λ (z : j < m). t .best j z b f)
-              (eq-or-lt-of-le (le-of-suc-le-suc l));
-        },
-      ))
-
-  topmost : (m i : ℕ) → fires fs r i ≡ true → (k : ℕ) × Top fs r m i k
-  topmost zero i e = (i, record { fired = e; over = inl refl; best = λ j l b f. not-suc-le-zero l })
-  topmost (suc m) i e = let t = topmost m i e in climb m i (t .0) (t .1)
-
   -- In a state that tells the truth the topmost is not out.
   top-not-out : (s : State) → Tells fs r s → (i k : ℕ) → Top fs r (length fs) i k → isOut (standing s k) ≡ false
   top-not-out s t i k p =
@@ -157,7 +79,7 @@ module _ (fs : List Filter) (r : ℕ → Reading) where
   sure-matches s t i e =
       top-matches fs r i (held-fires fs r s t i (sure-held fs s i e))
       (λ j a f.
-      let p = topmost (length fs) j f in
+      let p = topmost fs r (length fs) j f in
       let k = p .0 in
       clash (isOut (standing s k))
       (sure-above fs s i e k (fires-below fs r k (p .1 .fired)) (⊎-elim

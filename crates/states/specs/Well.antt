@@ -17,9 +17,9 @@ use Rattle.residue.specs.declared.Fact.{Fact}
 use Rattle.residue.specs.declared.Outcome.{Outcome}
 use Rattle.residue.specs.Relations.{narrows}
 use Rattle.fields.specs.Widths.{full, fieldCount}
-use Rattle.lists.specs.Accepted.{wellItem, wellItems, wellFilter, wellFilters}
+use Rattle.lists.specs.inner.Well.{wellItem, wellItems, wellFilter, wellFilters}
 use Rattle.lists.specs.Filters.{Item, Filter}
-use Rattle.lists.specs.Laws.{well-items}
+use Rattle.lists.specs.laws.Accepted.{well-items}
 use Rattle.states.specs.States.{State, allLeft, start, ask, questionOf, stepBy}
 use Rattle.states.specs.Runs.{run, follow}
 use Rattle.states.specs.Standings.{factBy}

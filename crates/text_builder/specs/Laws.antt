@@ -13,7 +13,7 @@ use lib.ListN.{length}
 use Rattle.residue.specs.Choice.{by-cond}
 use Rattle.lists.specs.Filters.{filtersOf}
 use Rattle.lists.specs.Refusals.{listed}
-use Rattle.lists.specs.Faults.{Faulty, listed-faulty}
+use Rattle.lists.specs.laws.Faults.{Faulty, listed-faulty}
 use Rattle.lists.specs.declared.Listed.{Listed}
 use Rattle.lists.specs.declared.Listed.the-variants as L
 use Rattle.tables.specs.Tables.{slotsOf}

@@ -7,7 +7,7 @@ use native.Mathlib.Omega.{arith}
 use lib.ListN.{length}
 use denote.Ref.{now}
 use Rattle.lists.specs.Filters.{filtersOf}
-use Rattle.lists.specs.Laws.{length-rankSets}
+use Rattle.lists.specs.laws.Ranking.{length-rankSets}
 use Rattle.tables.specs.Tables.{recordWords, slotsOf}
 use Rattle.builder.specs.Outcome.{Answered, accepted, cleared}
 use Rattle.builder.specs.Finished as F
