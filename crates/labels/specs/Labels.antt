@@ -15,12 +15,13 @@ use lib.ListN.{length}
 use Rattle.residue.specs.declared.Outcome.{Outcome}
 use Rattle.residue.specs.declared.Outcome.the-variants.{Holds, Fails, Absent}
 use Rattle.fields.specs.Bytes.{Bytes}
+use Rattle.fields.specs.Ethernet.{maxFrame}
 use Rattle.lists.specs.Words.{itemWords}
 use Rattle.lists.specs.Filters.{Item, Filter}
 use Rattle.states.specs.States.{State, start, Question, nothing, ask, questionOf, stepBy, sureSet, outSet}
 use Rattle.states.specs.Choices.{Chosen}
 use Rattle.tables.specs.Tables.{slotsOf, wordOf, kindAt, fieldAt, maskAt, valueAt, holdsAt, failsAt, absentAt, sureAt, outAt}
-use Rattle.matcher.specs.Walk.{maxFrame, Shown, done, stopped}
+use Rattle.matcher.specs.Walk.{Shown, done, stopped}
 
 unfoldable pub questionAt : List ℕ → ℕ → List ℕ
 questionAt t n = wordOf t n kindAt ∷ wordOf t n fieldAt ∷ wordOf t n maskAt ∷ wordOf t n valueAt ∷ []

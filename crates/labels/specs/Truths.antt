@@ -12,6 +12,7 @@ use lib.ListN.{length}
 use borrow.Author.Tests.{lt-ltb, le-ltb, ne-eqb}
 use Rattle.residue.specs.Choice.{both, first, second}
 use Rattle.residue.specs.declared.Reading.{Reading}
+use Rattle.fields.specs.Ethernet.{maxFrame}
 use Rattle.fields.specs.Fields.{field}
 use Rattle.fields.specs.laws.Values.{value-in-width}
 use Rattle.sets.specs.Sets.{member}
@@ -22,7 +23,7 @@ use Rattle.states.specs.States.{State, start, Question, nothing, ask, questionO
 use Rattle.states.specs.Runs.{run, askedIn}
 use Rattle.states.specs.Laws.{Leads, Chosen, Picked, OfFrame, Free, path-of, path-free, picks-run, wellState, well-start, InWidths, leads-sure, leads-out, member-sure, member-out, PathTruth, path-truth}
 use Rattle.tables.specs.Tables.{slotsOf}
-use Rattle.matcher.specs.Walk.{maxFrame, Shown, walkFrom, walk}
+use Rattle.matcher.specs.Walk.{Shown, walkFrom, walk}
 use Rattle.labels.specs.Labels.{LabelledBy, endedBy, shownAt, Legal}
 use Rattle.labels.specs.Courses.{Course, walk-course, end-well, walk-shows}
 

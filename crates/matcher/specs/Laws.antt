@@ -12,12 +12,13 @@ use mathlib.Core.List.{List}
 use borrow.Author.Tests.{eq-eqb, ne-eqb, lt-ltb, le-ltb}
 use lib.Dec.{ltb, eqb}
 use lib.ListN.{length}
+use Rattle.fields.specs.Ethernet.{maxFrame}
 use Rattle.fields.specs.Fields.{field}
 use Rattle.tables.specs.Tables.{recordWords, maxSlots, slotsOf}
 use Rattle.tables.specs.Laws.{slots-least}
 use Rattle.matcher.specs.declared.Answer.{Answer}
 use Rattle.matcher.specs.declared.Answer.the-variants.{Done, Stopped, Refused}
-use Rattle.matcher.specs.Walk.{maxFrame, Shown, shown, refused, walk, walkFrom}
+use Rattle.matcher.specs.Walk.{Shown, shown, refused, walk, walkFrom}
 
 ends : {x y : Shown} → x ≡ y → x .ended ≡ y .ended
 ends e = ap (λ (s : Shown). s .ended) e

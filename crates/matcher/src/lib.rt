@@ -10,6 +10,14 @@ ghost use Rattle.matcher.specs.Walk.{shown, walkFrom, walk};
 ghost use Rattle.matcher.specs.Records.{endsAt, endAt};
 ghost use Rattle.matcher.specs.Chains.{linksAt, Chained};
 ghost use Rattle.fields.specs.Widths.{fieldCount};
+use fields::FIELDS;
+use fields::LAST_FIELD;
+use fields::MAX_FRAME;
+use fields::Values;
+use lists::AT_LEAST;
+use lists::AT_MOST;
+use lists::DIFFERS;
+use lists::EQUAL;
 use residue::Reading;
 
 // The end of a walk: at a final record, or with the allowance used, each with the sure set, the out set and the questions asked; or refused, with its number.
@@ -30,9 +38,9 @@ fn holds_word(kind: u32, mask: u32, value: u32, x: u32) -> bool
     ensures { λ r. ⌜ r ≡ holds (testOf kind mask value) x ⌝ }
 {
     match kind {
-        1 => x & mask == value,
-        2 => x & mask != value,
-        3 => x <= value,
+        EQUAL => x & mask == value,
+        DIFFERS => x & mask != value,
+        AT_MOST => x <= value,
         _ => value <= x,
     }
 }
@@ -46,10 +54,10 @@ fn ends(words: &[u32], left: u32) -> bool
     if kind == 0 {
         return true;
     }
-    if 4 < kind {
+    if AT_LEAST < kind {
         return true;
     }
-    if 13 < words[1] {
+    if LAST_FIELD < words[1] {
         return true;
     }
     left == 0
@@ -65,7 +73,7 @@ fn end(words: &[u32], asked: u32) -> Answer
     if words[0] == 0 {
         return Answer::Done(sure, out, asked);
     }
-    if (4 < words[0]) | (13 < words[1]) {
+    if (AT_LEAST < words[0]) | (LAST_FIELD < words[1]) {
         return Answer::Refused(13);
     }
     Answer::Stopped(sure, out, asked)
@@ -76,7 +84,7 @@ fn links(words: &[u32], field: u32, x: u32, next: u32) -> bool
     requires { ⌜ recordWords ≤ length (now words) ⌝ }
     ensures { λ r. ⌜ r ≡ linksAt (now (words .entry)) field x next ⌝ }
 {
-    if words[0] != 1 {
+    if words[0] != EQUAL {
         return false;
     }
     if words[1] != field {
@@ -131,7 +139,7 @@ fn follow(table: &[u32], s: u32, next: u32, field: u32, x: u32, states: u32, lef
 
 // The walk from record 0 on, over a header that was read. Each way has its own load and its own test:
 // one `next` for all ways would make each record wait for the one before it.
-fn walk_from(present: u32, values: &[u32; 14], table: &[u32], states: u32, allowance: u32) -> Answer
+fn walk_from(present: u32, values: &Values, table: &[u32], states: u32, allowance: u32) -> Answer
     requires { ⌜ 0 < states ⌝ ∗ ⌜ states ≤ maxSlots ⌝ ∗ ⌜ recordWords * states ≤ length (now table) ⌝ }
     ensures { λ r. ⌜ shown r ≡ walkFrom (now (table .entry)) states (readingAt present (now (values .entry))) allowance 0 0 ⌝ }
 {
@@ -172,7 +180,7 @@ fn walk_from(present: u32, values: &[u32; 14], table: &[u32], states: u32, allow
 pub fn classify(frame: &[u8], port: u8, table: &[u32], states: u32, allowance: u32) -> Answer
     ensures { λ r. ⌜ shown r ≡ walk (now (frame .entry)) port (now (table .entry)) states allowance ⌝ }
 {
-    if 1522 < frame.len() {
+    if MAX_FRAME < frame.len() {
         return Answer::Refused(12);
     }
     if states == 0 {
@@ -184,7 +192,7 @@ pub fn classify(frame: &[u8], port: u8, table: &[u32], states: u32, allowance: u
     if table.len() < 9 * states as usize {
         return Answer::Refused(13);
     }
-    let mut values = [0u32; 14];
+    let mut values = [0u32; FIELDS];
     let present = fields::read_header(frame, port, &mut values);
     walk_from(present, &values, table, states, allowance)
 }
