@@ -9,13 +9,14 @@ use lib.Dec.{eqb}
 use lib.Bits.{bitAnd}
 use Rattle.residue.specs.declared.Reading.{Reading}
 use Rattle.residue.specs.declared.Reading.the-variants.{Value}
+use Rattle.lists.specs.Filters.{kindEqual}
 use Rattle.tables.specs.Tables.{kindAt, fieldAt, maskAt, valueAt, failsAt}
 use Rattle.matcher.specs.Walk.{walkFrom}
 use Rattle.matcher.specs.Records.{wordIn}
 
 unfoldable pub linksAt : List ℕ → ℕ → ℕ → ℕ → Bool
 linksAt w f x n =
-    eqb (wordIn w kindAt) 1 &&
+    eqb (wordIn w kindAt) kindEqual &&
     eqb (wordIn w fieldAt) f &&
     not (eqb (bitAnd x (wordIn w maskAt)) (wordIn w valueAt)) &&
     eqb (wordIn w failsAt) n
