@@ -29,7 +29,7 @@ use Rattle.automaton.specs.Placing.{nextWord}
 use Rattle.automaton.specs.Places.{place-below}
 use Rattle.automaton.specs.Records.{records-long, records-word, record-question, record-next, record-sets}
 use Rattle.tables.specs.Tables.{wordOf, kindAt, fieldAt, maskAt, valueAt, holdsAt, failsAt, sureAt, outAt}
-use Rattle.states.specs.Measure.{asks}
+use Rattle.states.specs.Runs.{asks}
 use Rattle.slots.specs.Laws.{questionWords}
 use Rattle.machine.specs.Box.{boxOf, statesOf, recordsIn}
 use Rattle.machine.specs.Laws.{box-lawful, states-good, state-good, states-closed, states-place}

@@ -25,7 +25,7 @@ use Rattle.lists.specs.Filters.{Filter, filtersOf, testsIn}
 use Rattle.lists.specs.Ranks.{fires, matches}
 use Rattle.states.specs.States.{State, Question, nothing, ask, questionOf, standing, isOut, start, sure, isOpen, sureSet, outSet}
 use Rattle.states.specs.Runs.{askedIn}
-use Rattle.states.specs.Laws.{InWidths, after, member-sure, member-out, PathTruth, path-truth}
+use Rattle.states.specs.Laws.{InWidths, after, member-sure, member-out, PathTruth, run-truth, run-final, run-sure-stays, run-out-stays, asked-le}
 use Rattle.tables.specs.Tables.{recordWords, maxSlots, slotsOf}
 use Rattle.machine.specs.Box.{statesOf, recordsIn}
 use Rattle.machine.specs.Laws.{states-some, records-size, start-met, start-first}
@@ -120,8 +120,11 @@ module _ (l t s : List ℕ) (built : outcome l t s .answer .refusal ≡ 0) (f : 
   success : Success l t s
   success = build-success l t s built
 
-  truth : (a : ℕ) → PathTruth fs r a
-  truth a = path-truth fs r (success .well) (legal-widths f p legal) a
+  truth : (a : ℕ) → PathTruth fs r (askedIn fs r a (start fs)) (after fs r a)
+  truth a = run-truth fs r (success .well) (legal-widths f p legal) a
+
+  final : (a : ℕ) → testsIn fs ≤ a → questionOf (after fs r a) ≡ nothing
+  final a enough = run-final fs r a (success .well) enough
 
   pub exact : (a : ℕ) → walked l t s f p a ≡ shownAt fs (after fs r a) (askedIn fs r a (start fs))
   unfolding placed
@@ -138,11 +141,11 @@ module _ (l t s : List ℕ) (built : outcome l t s .answer .refusal ≡ 0) (f : 
       ap (λ (w : Shown). member i (w .out)) (exact a) ∙ ap (member i) (out-shown fs (after fs r a) _) ∙ member-out fs (after fs r a) i
 
   pub all-done : (a : ℕ) → testsIn fs ≤ a → walked l t s f p a .ended ≡ 1
-  all-done a enough = ap (λ (w : Shown). w .ended) (exact a) ∙ done-shown fs (after fs r a) _ (truth a .ended enough)
+  all-done a enough = ap (λ (w : Shown). w .ended) (exact a) ∙ done-shown fs (after fs r a) _ (final a enough)
 
   pub all-matches : (a : ℕ) → testsIn fs ≤ a → (i : ℕ) → member i (walked l t s f p a .sure) ≡ matches fs r i
   all-matches a enough i =
-      sure-member a i ∙ ap (λ (b : Bool). ltb i (length fs) && b) (truth a .settled enough i) ∙ matches-within fs r i
+      sure-member a i ∙ ap (λ (b : Bool). ltb i (length fs) && b) (truth a .settled (final a enough) i) ∙ matches-within fs r i
 
   pub sure-so : (a i : ℕ) → member i (walked l t s f p a .sure) ≡ true → matches fs r i ≡ true
   sure-so a i e = truth a .sure-true i (second (ltb i (length fs)) _ (sym (sure-member a i) ∙ e))
@@ -153,18 +156,18 @@ module _ (l t s : List ℕ) (built : outcome l t s .answer .refusal ≡ 0) (f : 
   pub sure-kept : (a a' i : ℕ) → a ≤ a' → member i (walked l t s f p a .sure) ≡ true → member i (walked l t s f p a' .sure) ≡ true
   sure-kept a a' i more e =
       let known = sym (sure-member a i) ∙ e in
-      sure-member a' i ∙ both _ _ (first (ltb i (length fs)) _ known) (truth a .sure-kept a' i more (second (ltb i (length fs)) _ known))
+      sure-member a' i ∙ both _ _ (first (ltb i (length fs)) _ known) (run-sure-stays fs r a a' (start fs) i more (second (ltb i (length fs)) _ known))
 
   pub out-kept : (a a' i : ℕ) → a ≤ a' → member i (walked l t s f p a .out) ≡ true → member i (walked l t s f p a' .out) ≡ true
   out-kept a a' i more e =
       let known = sym (out-member a i) ∙ e in
-      out-member a' i ∙ both _ _ (first (ltb i (length fs)) _ known) (truth a .out-kept a' i more (second (ltb i (length fs)) _ known))
+      out-member a' i ∙ both _ _ (first (ltb i (length fs)) _ known) (run-out-stays fs r a a' (start fs) i more (second (ltb i (length fs)) _ known))
 
   pub none-left :
       (a : ℕ) → testsIn fs ≤ a → (i : ℕ) → i < length fs →
       (member i (walked l t s f p a .sure) ≡ true) ⊎ (member i (walked l t s f p a .out) ≡ true)
   unfolding isOpen
-  none-left a enough i inside = go (sure fs (after fs r a) i) (isOut (standing (after fs r a) i)) refl refl (truth a .none-open enough i)
+  none-left a enough i inside = go (sure fs (after fs r a) i) (isOut (standing (after fs r a) i)) refl refl (truth a .none-open (final a enough) i)
     where
       here : ltb i (length fs) ≡ true
       here = lt-ltb i (length fs) inside
@@ -183,4 +186,4 @@ module _ (l t s : List ℕ) (built : outcome l t s .answer .refusal ≡ 0) (f : 
   pub asked-few : (a : ℕ) → (walked l t s f p a .asked ≤ a) × (walked l t s f p a .asked ≤ testsIn fs)
   asked-few a =
       let count : walked l t s f p a .asked ≡ askedIn fs r a (start fs) = ap (λ (w : Shown). w .asked) (exact a) ∙ asked-shown fs (after fs r a) _ in
-      (omega (arith, truth a .asked-allowed), omega (arith, truth a .asked-few))
+      (omega (arith, asked-le fs r a (start fs)), omega (arith, truth a .few))

@@ -8,7 +8,7 @@ use Prim.Native.Nat.{ℕ, suc}
 use mathlib.Core.List.{List, [], _∷_}
 use Rattle.lists.specs.Filters.{Filter, testsIn}
 use Rattle.states.specs.States.{State, questionOf, start, step, sureSet, outSet}
-use Rattle.states.specs.Measure.{asks}
+use Rattle.states.specs.Runs.{asks}
 use Rattle.states.specs.Same.{sameState}
 use Rattle.automaton.specs.Machines.{Machine, visit, recordsOf}
 use Rattle.slots.specs.Slots.{questionIn, asksIn, stepWords, sureSetIn, outSetIn, sameWords}

@@ -15,7 +15,7 @@ use Rattle.lists.specs.Ranks as LR
 use Rattle.lists.specs.Accepted as LA
 use Rattle.states.specs.States as ST
 use Rattle.states.specs.Same as SM
-use Rattle.states.specs.Measure as SA
+use Rattle.states.specs.Runs as SA
 use Rattle.automaton.specs.Machines as MM
 use Rattle.slots.specs.Laws as SL
 use Rattle.machine.specs.Box as BX

@@ -17,7 +17,7 @@ use Rattle.automaton.specs.Reaching.{all-each-good, all-good, all-closed, all-s
 use Rattle.automaton.specs.Lists.{Each}
 use Rattle.automaton.specs.Places.{place-below}
 use Rattle.automaton.specs.Records.{records-long}
-use Rattle.states.specs.Measure.{asks}
+use Rattle.states.specs.Runs.{asks}
 use Rattle.slots.specs.Laws.{fitsSlot, fits-start, fits-step, questionWords}
 use Rattle.machine.specs.Box.{boxOf, levelsOf, statesOf, recordsIn}
 

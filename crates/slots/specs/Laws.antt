@@ -30,7 +30,7 @@ use Rattle.lists.specs.Refusals.{listed}
 use Rattle.lists.specs.declared.Listed.the-variants.{Accepted}
 use Rattle.lists.specs.Laws.{accepted-count, accepted-well, item-round, getD-rankSets, rankSet-in, rankSet-clear}
 use Rattle.states.specs.States.{Standing, out, left, State, standing, isHeld, isOut, cutStanding, beaten, closedFrom, closed, allLeft, start, Question, nothing, ask, questionOf, stepBy, stepAt, step, sure, sureSet, outSet}
-use Rattle.states.specs.Measure.{asks}
+use Rattle.states.specs.Runs.{asks}
 use Rattle.states.specs.Same.{sameState, same-state-eq, same-state-refl}
 use Rattle.slots.specs.Words.{filterSlot, outMark, itemsWords, outWords, writtenFilter, written, readFilter}
 use Rattle.slots.specs.Slots.{headOf, heldSet, outSetIn, sureSetIn, closedIn, closedWords, hasTest, fourWords, questionIn, asksIn, cutWords, stepQuestion, stepWords, startWords, freshWords, sameWords}

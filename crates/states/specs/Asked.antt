@@ -21,9 +21,10 @@ use Rattle.lists.specs.Filters.{Item, Filter}
 use Rattle.states.specs.States.{State, ask, questionOf, stepBy}
 use Rattle.states.specs.Runs.{wayOf, run, follow}
 use Rattle.states.specs.Standings.{factBy}
-use Rattle.states.specs.Keeps.{run-keeps, follow-keeps}
-use Rattle.states.specs.Every.{everyState, leaves, every-question, every-step}
-use Rattle.states.specs.Well.{wellState, item-test, item-on, item-leaves, well-question}
+use Rattle.states.specs.Choices.{leftIn, Leads, Free, leads-keep, path-free}
+use Rattle.states.specs.Keeps.{question-left, run-path, follow-leads}
+use Rattle.states.specs.Every.{everyState, leaves, every-left, every-step}
+use Rattle.states.specs.Well.{wellState, item-test, item-on, item-leaves, well-left}
 
 unfoldable pub spentItem : Item → Item → Bool
 spentItem q t = cond (eqb (t .field) (q .field)) (spent (q .test) (t .test)) true
@@ -78,24 +79,25 @@ fresh-other q h f =
     false≢true
     (sym (spent-other (full (q .field)) (q .test) (q .test) (item-test q h) (fresh-spent q q f (eq-eqb (q .field) (q .field) refl))) ∙ same-test-refl (q .test))
 
-fresh-unasked : (q : Item) (s : State) → wellItem q ≡ true → everyState (freshItem q) s ≡ true → questionOf s ≡ ask q → ⊥
-fresh-unasked q s h f e = fresh-other q h (every-question (freshItem q) s q f e)
+-- Once q was asked it is no remaining test of any state that a path leads to, whatever the questions and the outcomes.
+pub left-once :
+    (fs : List Filter) (o : Outcome) (q : Item) (s : State) → wellState s ≡ true → leftIn q s ≡ true → {n : ℕ} {t : State} → Leads fs Free n (stepBy fs o q s) t →
+    leftIn q t ≡ true → ⊥
+left-once fs o q s h e {n} {t} p again =
+    let hq = well-left s q h e in
+    let fresh = leads-keep (λ (x : State). everyState (freshItem q) x ≡ true) (λ p o′ x _ f. fresh-step q fs o′ p x f) p (asked-fresh fs o q s hq h) in
+    fresh-other q hq (every-left (freshItem q) t q fresh again)
 
--- Whatever outcomes follow, q is not asked again.
+-- So document 01's question is not asked again, whatever outcomes follow.
 pub never-twice :
     (fs : List Filter) (o : Outcome) (os : List Outcome) (q : Item) (s : State) → wellState s ≡ true → questionOf s ≡ ask q →
     questionOf (follow fs os (stepBy fs o q s)) ≡ ask q → ⊥
-never-twice fs o os q s h e =
-    let hq = well-question s q h e in
-    fresh-unasked q (follow fs os (stepBy fs o q s)) hq
-    (follow-keeps fs (λ (x : State). everyState (freshItem q) x ≡ true) (λ o′ p x _ f. fresh-step q fs o′ p x f) os (stepBy fs o q s) (asked-fresh fs o q s hq h))
+never-twice fs o os q s h e again =
+    left-once fs o q s h (question-left s q e) (follow-leads fs os (stepBy fs o q s) .1) (question-left _ q again)
 
 -- The same for the path of a frame.
 pub run-never-twice :
     (fs : List Filter) (r : ℕ → Reading) (n : ℕ) (q : Item) (s : State) → wellState s ≡ true → questionOf s ≡ ask q →
     questionOf (run fs r n (stepBy fs (wayOf r q) q s)) ≡ ask q → ⊥
-run-never-twice fs r n q s h e =
-    let hq = well-question s q h e in
-    fresh-unasked q (run fs r n (stepBy fs (wayOf r q) q s)) hq
-    (run-keeps fs r (λ (x : State). everyState (freshItem q) x ≡ true) (λ p x _ f. fresh-step q fs (wayOf r p) p x f) n (stepBy fs (wayOf r q) q s)
-    (asked-fresh fs (wayOf r q) q s hq h))
+run-never-twice fs r n q s h e again =
+    left-once fs (wayOf r q) q s h (question-left s q e) (path-free fs r (run-path fs r n (stepBy fs (wayOf r q) q s))) (question-left _ q again)

@@ -2,8 +2,8 @@
 --   everyItem p ts, everyStanding p x, everyState p s   p is true of every test that remains
 --   leaves p n d                                        p is true of the test on field n that the residue d leaves, if it leaves one
 use Prim.Native.Nat.{ℕ, zero, suc, _+_}
-use mathlib.Core.Path.{_≡_, refl, subst}
-use mathlib.Core.Bool.{Bool, true, false, cond, _&&_}
+use mathlib.Core.Path.{_≡_, refl, sym, subst}
+use mathlib.Core.Bool.{Bool, true, false, cond, _&&_, false≢true}
 use mathlib.Core.List.{List, [], _∷_, map}
 use lib.Dec.{eqb}
 use Rattle.residue.specs.Choice.{by-cond, both, first, second}
@@ -18,7 +18,9 @@ use Rattle.fields.specs.Widths.{full}
 use Rattle.lists.specs.Filters.{Item, Filter}
 use Rattle.states.specs.States.{Standing, out, left, State, standing, keep, join, cut, cutStanding, beaten, closedFrom, closed, ask, questionOf, stepBy}
 use Rattle.states.specs.Standings.{factBy}
-use Rattle.states.specs.Keeps.{none-asked}
+use Rattle.states.specs.Same.{sameItem, same-item-eq}
+use Rattle.states.specs.Choices.{among, leftIn, either}
+use Rattle.states.specs.Keeps.{question-left}
 
 unfoldable pub everyItem : (Item → Bool) → List Item → Bool
 everyItem p [] = true
@@ -42,14 +44,28 @@ module _ (p : Item → Bool) where
   every-standing (x ∷ s) zero h = first (everyStanding p x) (everyState p s) h
   every-standing (x ∷ s) (suc i) h = every-standing s i (second (everyStanding p x) (everyState p s) h)
 
+  every-among : (q : Item) (ts : List Item) → everyItem p ts ≡ true → among q ts ≡ true → p q ≡ true
+  unfolding everyItem among
+  every-among q [] h e = absurd (false≢true e)
+  every-among q (t ∷ ts) h e =
+      either (p q ≡ true) (sameItem q t) (among q ts)
+      (λ z. subst (λ (u : Item). p u ≡ true) (sym (same-item-eq q t z)) (first (p t) (everyItem p ts) h))
+      (every-among q ts (second (p t) (everyItem p ts) h))
+      e
+
+  -- It is true of each remaining test, and so of the question.
+  pub every-left : (s : State) (q : Item) → everyState p s ≡ true → leftIn q s ≡ true → p q ≡ true
+  unfolding everyState everyStanding leftIn
+  every-left [] q h e = absurd (false≢true e)
+  every-left (out ∷ s) q h e = every-left s q h e
+  every-left (left ts ∷ s) q h e =
+      either (p q ≡ true) (among q ts) (leftIn q s)
+      (every-among q ts (first (everyItem p ts) (everyState p s) h))
+      (every-left s q (second (everyItem p ts) (everyState p s) h))
+      e
+
   pub every-question : (s : State) (q : Item) → everyState p s ≡ true → questionOf s ≡ ask q → p q ≡ true
-  unfolding everyState everyStanding everyItem questionOf
-  every-question [] q h e = absurd (none-asked q e)
-  every-question (out ∷ s) q h e = every-question s q h e
-  every-question (left [] ∷ s) q h e = every-question s q h e
-  every-question (left (t ∷ ts) ∷ s) q h e =
-      let z : t ≡ q = cc in
-      subst (λ (u : Item). p u ≡ true) z (first (p t) (everyItem p ts) (first (p t && everyItem p ts) (everyState p s) h))
+  every-question s q h e = every-left s q h (question-left s q e)
 
   -- ---- closing
 

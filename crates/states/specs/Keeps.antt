@@ -1,15 +1,24 @@
--- What each step by a state's own question keeps, every path keeps: one induction for the path of a frame, one for any path.
---   by-question   a state is final or asks
+-- The path of a frame and the states that outcomes lead to, both by document 01's questions, are paths by remaining tests: what each question keeps, they keep.
+--   by-question            a state is final or asks
+--   question-left, left-asks   the question of a state is one of its remaining tests, and it has one where any remains
+--   run-picks, picks-run   run and askedIn are the frame's path by document 01's questions, up to the allowance or to a final state
+--   run-path, run-further  so they are a path of the frame, and a greater allowance goes on
+--   follow-leads           outcomes lead on by a question each, as long as there is one
 use Prim.Native.Nat.{ℕ, zero, suc, _≤_}
-use mathlib.Core.Path.{_≡_, refl, sym}
-use mathlib.Core.Bool.{true, false, false≢true}
+use mathlib.Core.Path.{_≡_, refl, sym, ap, _∙_, subst}
+use mathlib.Core.Logic.{_⊎_, inl, inr, ⊎-elim}
+use mathlib.Core.Bool.{true, false, _||_, _&&_, false≢true}
 use mathlib.Core.List.{List, [], _∷_}
-use native.Mathlib.Nat.{not-suc-le-zero, le-of-suc-le-suc}
+use native.Mathlib.Nat.{not-suc-le-zero, le-of-suc-le-suc, suc-inj}
+use native.Mathlib.Numerals.{add-one}
+use lib.ListN.{length}
 use Rattle.residue.specs.declared.Reading.{Reading}
 use Rattle.residue.specs.declared.Outcome.{Outcome}
 use Rattle.lists.specs.Filters.{Item, Filter}
-use Rattle.states.specs.States.{State, Question, nothing, ask, questionOf, stepBy, stepAt, step}
-use Rattle.states.specs.Runs.{wayOf, advanceAt, advance, run, follow}
+use Rattle.states.specs.States.{out, left, State, Question, nothing, ask, questionOf, stepBy, stepAt, step}
+use Rattle.states.specs.Runs.{wayOf, advanceAt, advance, run, askedAt, askedIn, follow, asks, asksAll}
+use Rattle.states.specs.Same.{sameItem, same-item-refl}
+use Rattle.states.specs.Choices.{among, leftIn, Leads, arrived, asking, Chosen, Picked, Answered, Path, Free, leads-keep, leads-more, path-keeps}
 
 pub none-asked : (q : Item) → nothing ≡ ask q → ⊥
 none-asked q z = let y : true ≡ false = cc in false≢true (sym y)
@@ -21,42 +30,111 @@ by-question P s f g = go (questionOf s) refl
     go nothing e = f e
     go (ask q) e = g q e
 
-module _
-    (fs : List Filter) (r : ℕ → Reading) (P : State → Type 0)
-    (kept : (q : Item) (s : State) → questionOf s ≡ ask q → P s → P (stepBy fs (wayOf r q) q s)) where
-  advanceAt-keeps : (a : Question) (s : State) → questionOf s ≡ a → P s → P (advanceAt fs r a s)
-  unfolding advanceAt
-  advanceAt-keeps nothing s e p = p
-  advanceAt-keeps (ask q) s e p = kept q s e p
+pub question-left : (s : State) (q : Item) → questionOf s ≡ ask q → leftIn q s ≡ true
+unfolding questionOf leftIn among
+question-left [] q e = absurd (none-asked q e)
+question-left (out ∷ s) q e = question-left s q e
+question-left (left [] ∷ s) q e = question-left s q e
+question-left (left (t ∷ ts) ∷ s) q e =
+    let z : t ≡ q = cc in
+    subst (λ (u : Item). (sameItem u t || among u ts || leftIn u s) ≡ true) z (rw (same-item-refl t))
 
-  pub advance-keeps : (s : State) → P s → P (advance fs r s)
-  unfolding advance
-  advance-keeps s p = advanceAt-keeps (questionOf s) s refl p
+-- A state that has a remaining test has a question.
+pub left-asks : (s : State) (q : Item) → leftIn q s ≡ true → questionOf s ≡ nothing → ⊥
+unfolding questionOf leftIn among
+left-asks [] q h e = false≢true h
+left-asks (out ∷ s) q h e = left-asks s q h e
+left-asks (left [] ∷ s) q h e = left-asks s q h e
+left-asks (left (t ∷ ts) ∷ s) q h e = none-asked t (sym e)
 
-  pub run-keeps : (n : ℕ) (s : State) → P s → P (run fs r n s)
+-- ---- a state that asks, and one that does not
+
+pub step-ask : (fs : List Filter) (o : Outcome) (q : Item) (s : State) → questionOf s ≡ ask q → step fs o s ≡ stepBy fs o q s
+unfolding step stepAt
+step-ask fs o q s e = ap (λ (a : Question). stepAt fs o a s) e
+
+module _ (fs : List Filter) (r : ℕ → Reading) where
+  pub advance-ask : (q : Item) (s : State) → questionOf s ≡ ask q → advance fs r s ≡ stepBy fs (wayOf r q) q s
+  unfolding advance advanceAt
+  advance-ask q s e = ap (λ (a : Question). advanceAt fs r a s) e
+
+  pub run-stays : (n : ℕ) (s : State) → questionOf s ≡ nothing → run fs r n s ≡ s
+  unfolding run advance advanceAt
+  run-stays zero s e = refl
+  run-stays (suc n) s e = ap (λ (a : Question). run fs r n (advanceAt fs r a s)) e ∙ run-stays n s e
+
+  pub asked-none : (n : ℕ) (s : State) → questionOf s ≡ nothing → askedIn fs r n s ≡ 0
+  unfolding askedIn askedAt
+  asked-none zero s e = refl
+  asked-none (suc n) s e = ap (λ (a : Question). askedAt a (askedIn fs r n (advance fs r s))) e
+
+  pub asked-ask : (n : ℕ) (q : Item) (s : State) → questionOf s ≡ ask q → askedIn fs r (suc n) s ≡ suc (askedIn fs r n (advance fs r s))
+  unfolding askedIn askedAt
+  asked-ask n q s e = ap (λ (a : Question). askedAt a (askedIn fs r n (advance fs r s))) e ∙ add-one _
+
+  -- ---- the path of a frame
+
+  pub run-picks : (n : ℕ) (s : State) → Leads fs (Answered r Picked) (askedIn fs r n s) s (run fs r n s)
+  unfolding run askedIn askedAt advance advanceAt
+  run-picks zero s = arrived
+  run-picks (suc n) s = go (run-picks n) (questionOf s) refl
+    where
+      go : ((x : State) → Leads fs (Answered r Picked) (askedIn fs r n x) x (run fs r n x)) → (a : Question) → questionOf s ≡ a →
+          Leads fs (Answered r Picked) (askedAt a (askedIn fs r n (advanceAt fs r a s))) s (run fs r n (advanceAt fs r a s))
+      go on nothing e = rw (run-stays n s e) arrived
+      go on (ask q) e = rw add-one (asking q (wayOf r q) (e, refl) (on (stepBy fs (wayOf r q) q s)))
+
+  pub picks-run :
+      (n : ℕ) {k : ℕ} {s t : State} → Leads fs (Answered r Picked) k s t → k ≤ n → (k ≡ n) ⊎ (questionOf t ≡ nothing) → (run fs r n s ≡ t) × (askedIn fs r n s ≡ k)
+  unfolding run askedIn
+  picks-run n {s = s} arrived l (inl e) = rw (← e) (refl, refl)
+  picks-run n {s = s} arrived l (inr e) = (run-stays n s e, asked-none n s e)
+  picks-run zero (asking q o a p) l e = absurd (not-suc-le-zero l)
+  picks-run (suc n) (asking {n = k} {s = s} {t = t} q o a p) l e =
+      let next : advance fs r s ≡ stepBy fs o q s = advance-ask q s (a .0) ∙ ap (λ (x : Outcome). stepBy fs x q s) (sym (a .1)) in
+      let rest = picks-run n p (le-of-suc-le-suc l) (⊎-elim (λ (z : suc k ≡ suc n). inl (suc-inj z)) (λ (z : questionOf t ≡ nothing). inr z) e) in
+      (ap (run fs r n) next ∙ rest .0, asked-ask n q s (a .0) ∙ ap suc (ap (askedIn fs r n) next ∙ rest .1))
+
+  pub run-path : (n : ℕ) (s : State) → Path fs r (askedIn fs r n s) s (run fs r n s)
+  run-path n s = leads-more (λ q o x a. (question-left x q (a .0), a .1)) (run-picks n s)
+
+  -- The allowance is used up, or there is nothing left to ask.
+  pub run-ended : (n : ℕ) (s : State) → (askedIn fs r n s ≡ n) ⊎ (questionOf (run fs r n s) ≡ nothing)
+  unfolding run askedIn
+  run-ended zero s = inl refl
+  run-ended (suc n) s =
+      by-question ((askedIn fs r (suc n) s ≡ suc n) ⊎ (questionOf (run fs r (suc n) s) ≡ nothing)) s
+      (λ e. inr (ap questionOf (run-stays (suc n) s e) ∙ e))
+      (λ q e. ⊎-elim (λ (z : askedIn fs r n (advance fs r s) ≡ n). inl (asked-ask n q s e ∙ ap suc z)) inr (run-ended n (advance fs r s)))
+
+  -- A greater allowance goes on from where a smaller one ended.
+  pub run-further : (n m : ℕ) (s : State) → n ≤ m → (k : ℕ) × Path fs r k (run fs r n s) (run fs r m s)
   unfolding run
-  run-keeps zero s p = p
-  run-keeps (suc n) s p = run-keeps n (advance fs r s) (advance-keeps s p)
+  run-further zero m s l = (askedIn fs r m s, run-path m s)
+  run-further (suc n) zero s l = absurd (not-suc-le-zero l)
+  run-further (suc n) (suc m) s l = run-further n m (advance fs r s) (le-of-suc-le-suc l)
 
-  pub run-more : (n m : ℕ) (s : State) → n ≤ m → P (run fs r n s) → P (run fs r m s)
-  unfolding run
-  run-more zero m s l p = run-keeps m s p
-  run-more (suc n) zero s l p = absurd (not-suc-le-zero l)
-  run-more (suc n) (suc m) s l p = run-more n m (advance fs r s) (le-of-suc-le-suc l) p
+  pub run-keeps : (P : State → Type 0) → ((q : Item) (s : State) → Chosen q s → P s → P (stepBy fs (wayOf r q) q s)) → (n : ℕ) (s : State) → P s → P (run fs r n s)
+  run-keeps P kept n s p = path-keeps fs r P kept (run-path n s) p
 
-module _
-    (fs : List Filter) (P : State → Type 0)
-    (kept : (o : Outcome) (q : Item) (s : State) → questionOf s ≡ ask q → P s → P (stepBy fs o q s)) where
-  stepAt-keeps : (o : Outcome) (a : Question) (s : State) → questionOf s ≡ a → P s → P (stepAt fs o a s)
-  unfolding stepAt
-  stepAt-keeps o nothing s e p = p
-  stepAt-keeps o (ask q) s e p = kept o q s e p
+-- ---- any outcomes
 
-  pub step-keeps : (o : Outcome) (s : State) → P s → P (step fs o s)
-  unfolding step
-  step-keeps o s p = stepAt-keeps o (questionOf s) s refl p
+module _ (fs : List Filter) where
+  -- As many questions as outcomes, where each answers one.
+  pub follow-leads : (os : List Outcome) (s : State) → (k : ℕ) × Leads fs Free k s (follow fs os s) × (asksAll fs os s ≡ true → k ≡ length os)
+  unfolding follow step stepAt asksAll asks
+  follow-leads [] s = (zero, arrived, λ _. refl)
+  follow-leads (o ∷ os) s = go (follow-leads os) (questionOf s) refl
+    where
+      go : ((x : State) → (k : ℕ) × Leads fs Free k x (follow fs os x) × (asksAll fs os x ≡ true → k ≡ length os)) → (a : Question) → questionOf s ≡ a →
+          (k : ℕ) × Leads fs Free k s (follow fs os (stepAt fs o a s)) × ((asks a && asksAll fs os (stepAt fs o a s)) ≡ true → k ≡ suc (length os))
+      go on nothing e = let p = on s in (p .0, p .1, λ h. absurd (false≢true h))
+      go on (ask q) e = let p = on (stepBy fs o q s) in (suc (p .0), asking q o (question-left s q e) (p .1), λ h. ap suc (p .2 h))
 
-  pub follow-keeps : (os : List Outcome) (s : State) → P s → P (follow fs os s)
-  unfolding follow
-  follow-keeps [] s p = p
-  follow-keeps (o ∷ os) s p = follow-keeps os (step fs o s) (step-keeps o s p)
+  module _ (P : State → Type 0) (kept : (o : Outcome) (q : Item) (s : State) → Chosen q s → P s → P (stepBy fs o q s)) where
+    pub follow-keeps : (os : List Outcome) (s : State) → P s → P (follow fs os s)
+    follow-keeps os s p = leads-keep P (λ q o x a z. kept o q x a z) (follow-leads os s .1) p
+
+    pub step-keeps : (o : Outcome) (s : State) → P s → P (step fs o s)
+    unfolding follow
+    step-keeps o s p = follow-keeps (o ∷ []) s p

@@ -1,6 +1,8 @@
 pub mod States
 pub mod Runs
 pub mod Standings
+pub mod Same
+pub mod Choices
 pub mod Keeps
 pub mod Every
 pub mod Well
@@ -9,6 +11,5 @@ pub mod Truth
 pub mod Sure
 pub mod Stays
 pub mod Paths
-pub mod Same
 pub mod Asked
 pub mod Laws

@@ -1,17 +1,16 @@
--- The number of remaining tests falls at each question, so a path ends, after as many questions as the list has tests at most.
---   asks a            the question a asks something
---   asksAll fs os s   each of the outcomes os answers a question of the state that it meets
+-- The number of remaining tests falls at each question that is one of them, so a path ends, after as many questions as the list has tests at most.
 use Prim.Native.Nat.{ℕ, zero, suc, _+_, _≤_, _<_}
-use mathlib.Core.Path.{_≡_, refl, ap, _∙_, subst}
-use mathlib.Core.Bool.{Bool, true, false, cond, _&&_, false≢true}
+use mathlib.Core.Path.{_≡_, refl, ap, subst}
+use mathlib.Core.Logic.{inr, ⊎-elim}
+use mathlib.Core.Bool.{Bool, true, false, cond, false≢true}
 use mathlib.Core.List.{List, [], _∷_, map}
-use native.Mathlib.Nat.{le-refl, not-suc-le-zero, le-of-suc-le-suc}
+use native.Mathlib.Nat.{le-refl}
 use native.Mathlib.Omega.{arith}
 use lib.Dec.{eqb}
 use lib.ListN.{length}
 use borrow.Author.Tests.{eq-eqb}
 use Rattle.residue.specs.Residues.{residueBy}
-use Rattle.residue.specs.Choice.{by-cond, first, second}
+use Rattle.residue.specs.Choice.{by-cond}
 use Rattle.residue.specs.Relations.{isSettled}
 use Rattle.residue.specs.Laws.{residue-own}
 use Rattle.residue.specs.declared.Reading.{Reading}
@@ -22,11 +21,13 @@ use Rattle.residue.specs.declared.Residue.the-variants.{True, False, Left}
 use Rattle.fields.specs.Widths.{full}
 use Rattle.lists.specs.Accepted.{wellItem, wellFilters}
 use Rattle.lists.specs.Filters.{Item, Filter, testsIn}
-use Rattle.states.specs.States.{Standing, out, left, State, keep, join, cut, cutStanding, beaten, closedFrom, closed, allLeft, start, Question, nothing, ask, questionOf, stepBy, stepAt, step, remainingIn, remaining}
-use Rattle.states.specs.Runs.{wayOf, advanceAt, advance, run, askedAt, askedIn, follow}
+use Rattle.states.specs.States.{Standing, out, left, State, keep, join, cut, cutStanding, beaten, closedFrom, closed, allLeft, start, Question, nothing, ask, questionOf, stepBy, step, remainingIn, remaining}
+use Rattle.states.specs.Runs.{advance, run, askedIn, asks, asksAll}
 use Rattle.states.specs.Standings.{factBy}
-use Rattle.states.specs.Well.{wellState, item-test, well-start, well-question, well-advance, well-next}
-use Rattle.states.specs.Keeps.{none-asked, by-question}
+use Rattle.states.specs.Same.{sameItem, same-item-eq}
+use Rattle.states.specs.Choices.{among, leftIn, Leads, arrived, asking, Free, either, path-free}
+use Rattle.states.specs.Well.{wellState, item-test, well-start, well-left, well-step}
+use Rattle.states.specs.Keeps.{none-asked, by-question, question-left, step-ask, asked-none, asked-ask, run-picks, picks-run, run-path, run-ended, follow-leads}
 
 -- ---- dividing and closing add no test
 
@@ -100,137 +101,53 @@ asking-remaining (left (t ∷ ts) ∷ s) q e = omega arith
 pub none-remaining : (s : State) → remaining s ≡ 0 → questionOf s ≡ nothing
 none-remaining s h = by-question (questionOf s ≡ nothing) s (λ e. e) (λ q e. absurd (omega (arith, asking-remaining s q e)))
 
-unfoldable pub asks : Question → Bool
-asks nothing = false
-asks (ask q) = true
+-- ---- a question
 
-unfoldable pub asksAll : List Filter → List Outcome → State → Bool
-asksAll fs [] s = true
-asksAll fs (o ∷ os) s = asks (questionOf s) && asksAll fs os (step fs o s)
-
--- The question's own test is settled, in the filter that asks it.
-own-falls : (o : Outcome) (q : Item) (ts : List Item) → wellItem q ≡ true → remainingIn (cut (q .field) (factBy o q) (q ∷ ts)) ≤ length ts
-unfolding cut
-own-falls o q ts h =
+-- The question's own test is settled, wherever it stands among the tests of a filter.
+own-falls : (o : Outcome) (q : Item) (ts : List Item) → wellItem q ≡ true → among q ts ≡ true → remainingIn (cut (q .field) (factBy o q) ts) < length ts
+unfolding cut among
+own-falls o q [] h e = absurd (false≢true e)
+own-falls o q (t ∷ ts) h e =
     let n = q .field in
     let k = factBy o q in
-    rw (eq-eqb n n refl)
+    either (remainingIn (cut n k (t ∷ ts)) < suc (length ts)) (sameItem q t) (among q ts)
+    (λ z.
+    subst (λ (u : Item). remainingIn (cut n k (u ∷ ts)) < suc (length ts)) (same-item-eq q t z)
+    (rw (eq-eqb n n refl)
     (omega (
       arith,
       join-settled n (residueBy (full n) k (q .test)) (cut n k ts) (residue-own (full n) o (q .test) (item-test q h)),
       cut-le n k ts,
-    ))
-
-head-falls :
-    (o : Outcome) (q t : Item) (ts : List Item) → wellItem q ≡ true → q ≡ t →
-    remainingIn (cutStanding (q .field) (factBy o q) (left (t ∷ ts))) < remainingIn (left (t ∷ ts))
-unfolding cutStanding remainingIn
-head-falls o q t ts h z =
-    let g : remainingIn (cut (q .field) (factBy o q) (t ∷ ts)) ≤ length ts =
-    subst (λ (u : Item). remainingIn (cut (q .field) (factBy o q) (u ∷ ts)) ≤ length ts) z (own-falls o q ts h) in
-    omega arith
+    ))))
+    (λ z.
+    by-cond (λ (x : Standing). remainingIn x < suc (length ts)) (eqb (t .field) n)
+    (λ _. omega (arith, join-le n (residueBy (full n) k (t .test)) (cut n k ts), own-falls o q ts h z))
+    (λ _. omega (arith, keep-le t (cut n k ts), own-falls o q ts h z)))
+    e
 
 map-falls :
-    (o : Outcome) (q : Item) (s : State) → wellItem q ≡ true → questionOf s ≡ ask q → remaining (map (cutStanding (q .field) (factBy o q)) s) < remaining s
-unfolding questionOf remaining
-map-falls o q [] h e = absurd (none-asked q e)
-map-falls o q (out ∷ s) h e = omega (arith, cutStanding-le (q .field) (factBy o q) out, map-falls o q s h e)
-map-falls o q (left [] ∷ s) h e = omega (arith, cutStanding-le (q .field) (factBy o q) (left []), map-falls o q s h e)
-map-falls o q (left (t ∷ ts) ∷ s) h e =
-    let z : q ≡ t = cc in
-    omega (arith, head-falls o q t ts h z, map-le (q .field) (factBy o q) s)
+    (o : Outcome) (q : Item) (s : State) → wellItem q ≡ true → leftIn q s ≡ true → remaining (map (cutStanding (q .field) (factBy o q)) s) < remaining s
+unfolding leftIn remaining remainingIn cutStanding
+map-falls o q [] h e = absurd (false≢true e)
+map-falls o q (out ∷ s) h e = omega (arith, map-falls o q s h e)
+map-falls o q (left ts ∷ s) h e =
+    let n = q .field in
+    let k = factBy o q in
+    either (remaining (map (cutStanding n k) (left ts ∷ s)) < remaining (left ts ∷ s)) (among q ts) (leftIn q s)
+    (λ z. omega (arith, own-falls o q ts h z, map-le n k s))
+    (λ z. omega (arith, cut-le n k ts, map-falls o q s h z))
+    e
+
+-- A remaining test that is asked is gone, whatever it comes to.
+pub left-falls :
+    (fs : List Filter) (o : Outcome) (q : Item) (s : State) → wellState s ≡ true → leftIn q s ≡ true → remaining (stepBy fs o q s) < remaining s
+unfolding stepBy
+left-falls fs o q s h e =
+    omega (arith, close-le fs (map (cutStanding (q .field) (factBy o q)) s), map-falls o q s (well-left s q h e) e)
 
 pub step-falls :
     (fs : List Filter) (o : Outcome) (q : Item) (s : State) → wellState s ≡ true → questionOf s ≡ ask q → remaining (stepBy fs o q s) < remaining s
-unfolding stepBy
-step-falls fs o q s h e =
-    omega (arith, close-le fs (map (cutStanding (q .field) (factBy o q)) s), map-falls o q s (well-question s q h e) e)
-
--- ---- the path of a frame ends
-
-pub run-stays : (fs : List Filter) (r : ℕ → Reading) (n : ℕ) (s : State) → questionOf s ≡ nothing → run fs r n s ≡ s
-unfolding run advance advanceAt
-run-stays fs r zero s e = refl
-run-stays fs r (suc n) s e =
-    ap (λ (a : Question). run fs r n (advanceAt fs r a s)) e ∙ run-stays fs r n s e
-
-pub advance-ask : (fs : List Filter) (r : ℕ → Reading) (q : Item) (s : State) → questionOf s ≡ ask q → advance fs r s ≡ stepBy fs (wayOf r q) q s
-unfolding advance advanceAt
-advance-ask fs r q s e = ap (λ (a : Question). advanceAt fs r a s) e
-
-pub step-ask : (fs : List Filter) (o : Outcome) (q : Item) (s : State) → questionOf s ≡ ask q → step fs o s ≡ stepBy fs o q s
-unfolding step stepAt
-step-ask fs o q s e = ap (λ (a : Question). stepAt fs o a s) e
-
-advance-falls : (fs : List Filter) (r : ℕ → Reading) (q : Item) (s : State) → wellState s ≡ true → questionOf s ≡ ask q → remaining (advance fs r s) < remaining s
-advance-falls fs r q s h e = rw (advance-ask fs r q s e) (step-falls fs (wayOf r q) q s h e)
-
-pub run-ends : (fs : List Filter) (r : ℕ → Reading) (n : ℕ) (s : State) → wellState s ≡ true → remaining s ≤ n → questionOf (run fs r n s) ≡ nothing
-unfolding run
-run-ends fs r zero s h l = none-remaining s (omega arith)
-run-ends fs r (suc n) s h l =
-    by-question (questionOf (run fs r n (advance fs r s)) ≡ nothing) s
-    (λ e. ap questionOf (run-stays fs r (suc n) s e) ∙ e)
-    (λ q e. run-ends fs r n (advance fs r s) (well-advance fs r s h) (omega (arith, advance-falls fs r q s h e)))
-
-pub run-final :
-    (fs : List Filter) (r : ℕ → Reading) (n : ℕ) → wellFilters fs ≡ true → testsIn fs ≤ n → questionOf (run fs r n (start fs)) ≡ nothing
-run-final fs r n h l = run-ends fs r n (start fs) (well-start fs h) (omega (arith, start-remaining fs))
-
--- ---- how many questions are asked
-
-pub asked-ask :
-    (fs : List Filter) (r : ℕ → Reading) (n : ℕ) (q : Item) (s : State) → questionOf s ≡ ask q → askedIn fs r (suc n) s ≡ askedIn fs r n (advance fs r s) + 1
-unfolding askedIn askedAt
-asked-ask fs r n q s e = ap (λ (a : Question). askedAt a (askedIn fs r n (advance fs r s))) e
-
-pub asked-none : (fs : List Filter) (r : ℕ → Reading) (n : ℕ) (s : State) → questionOf s ≡ nothing → askedIn fs r n s ≡ 0
-unfolding askedIn askedAt
-asked-none fs r zero s e = refl
-asked-none fs r (suc n) s e = ap (λ (a : Question). askedAt a (askedIn fs r n (advance fs r s))) e
-
--- Past the end nothing changes.
-pub run-past :
-    (fs : List Filter) (r : ℕ → Reading) (n m : ℕ) (s : State) → n ≤ m → questionOf (run fs r n s) ≡ nothing → run fs r m s ≡ run fs r n s
-unfolding run
-run-past fs r zero m s l e = run-stays fs r m s e
-run-past fs r (suc n) zero s l e = absurd (not-suc-le-zero l)
-run-past fs r (suc n) (suc m) s l e = run-past fs r n m (advance fs r s) (le-of-suc-le-suc l) e
-
-pub asked-past :
-    (fs : List Filter) (r : ℕ → Reading) (n m : ℕ) (s : State) → n ≤ m → questionOf (run fs r n s) ≡ nothing → askedIn fs r m s ≡ askedIn fs r n s
-unfolding run askedIn
-asked-past fs r zero m s l e = asked-none fs r m s e
-asked-past fs r (suc n) zero s l e = absurd (not-suc-le-zero l)
-asked-past fs r (suc n) (suc m) s l e = ap (askedAt (questionOf s)) (asked-past fs r n m (advance fs r s) (le-of-suc-le-suc l) e)
-
-asked-zero : (fs : List Filter) (r : ℕ → Reading) (s : State) → askedIn fs r 0 s ≡ 0
-unfolding askedIn
-asked-zero fs r s = refl
-
-pub asked-le : (fs : List Filter) (r : ℕ → Reading) (n : ℕ) (s : State) → askedIn fs r n s ≤ n
-asked-le fs r zero s = omega (arith, asked-zero fs r s)
-asked-le fs r (suc n) s =
-    by-question (askedIn fs r (suc n) s ≤ suc n) s
-    (λ e. omega (arith, asked-none fs r (suc n) s e))
-    (λ q e. omega (arith, asked-ask fs r n q s e, asked-le fs r n (advance fs r s)))
-
-pub asked-remaining : (fs : List Filter) (r : ℕ → Reading) (n : ℕ) (s : State) → wellState s ≡ true → askedIn fs r n s ≤ remaining s
-asked-remaining fs r zero s h = omega (arith, asked-zero fs r s)
-asked-remaining fs r (suc n) s h =
-    by-question (askedIn fs r (suc n) s ≤ remaining s) s
-    (λ e. omega (arith, asked-none fs r (suc n) s e))
-    (λ q e. omega (
-      arith,
-      asked-ask fs r n q s e,
-      advance-falls fs r q s h e,
-      asked-remaining fs r n (advance fs r s) (well-advance fs r s h),
-    ))
-
-pub asked-tests : (fs : List Filter) (r : ℕ → Reading) (n : ℕ) → wellFilters fs ≡ true → askedIn fs r n (start fs) ≤ testsIn fs
-asked-tests fs r n h = omega (arith, asked-remaining fs r n (start fs) (well-start fs h), start-remaining fs)
-
--- ---- any path
+step-falls fs o q s h e = left-falls fs o q s h (question-left s q e)
 
 pub next-falls :
     (fs : List Filter) (o : Outcome) (s : State) → wellState s ≡ true → asks (questionOf s) ≡ true → remaining (step fs o s) < remaining s
@@ -241,15 +158,51 @@ next-falls fs o s h a = go (questionOf s) refl a
     go nothing e z = absurd (false≢true z)
     go (ask q) e z = rw (step-ask fs o q s e) (step-falls fs o q s h e)
 
-pub follow-falls :
-    (fs : List Filter) (os : List Outcome) (s : State) → wellState s ≡ true → asksAll fs os s ≡ true → length os + remaining (follow fs os s) ≤ remaining s
-unfolding asksAll follow
-follow-falls fs [] s h a = omega arith
-follow-falls fs (o ∷ os) s h a =
-    let g = asks (questionOf s) in
-    let m = asksAll fs os (step fs o s) in
-    omega (arith, next-falls fs o s h (first g m a), follow-falls fs os (step fs o s) (well-next fs o s h) (second g m a))
+-- ---- a path
 
--- No path is longer than the list has tests.
+pub leads-fall : {fs : List Filter} {n : ℕ} {s t : State} → Leads fs Free n s t → wellState s ≡ true → n + remaining t ≤ remaining s
+leads-fall arrived h = omega arith
+leads-fall {fs} (asking {s = s} q o e p) h = omega (arith, left-falls fs o q s h e, leads-fall p (well-step fs o q s h))
+
+-- From the start no path is longer than the list has tests.
+pub leads-tests : (fs : List Filter) → wellFilters fs ≡ true → {n : ℕ} {s : State} → Leads fs Free n (start fs) s → n + remaining s ≤ testsIn fs
+leads-tests fs h p = omega (arith, leads-fall p (well-start fs h), start-remaining fs)
+
 pub path-tests : (fs : List Filter) (os : List Outcome) → wellFilters fs ≡ true → asksAll fs os (start fs) ≡ true → length os ≤ testsIn fs
-path-tests fs os h a = omega (arith, follow-falls fs os (start fs) (well-start fs h) a, start-remaining fs)
+path-tests fs os h a =
+    let p = follow-leads fs os (start fs) in
+    omega (arith, p .2 a, leads-tests fs h (p .1))
+
+-- ---- the path of a frame by document 01's questions
+
+module _ (fs : List Filter) (r : ℕ → Reading) where
+  pub asked-remaining : (n : ℕ) (s : State) → wellState s ≡ true → askedIn fs r n s + remaining (run fs r n s) ≤ remaining s
+  asked-remaining n s h = leads-fall (path-free fs r (run-path fs r n s)) h
+
+  pub run-ends : (n : ℕ) (s : State) → wellState s ≡ true → remaining s ≤ n → questionOf (run fs r n s) ≡ nothing
+  run-ends n s h l =
+      ⊎-elim (λ (e : askedIn fs r n s ≡ n). none-remaining (run fs r n s) (omega (arith, asked-remaining n s h))) (λ e. e) (run-ended fs r n s)
+
+  pub run-final : (n : ℕ) → wellFilters fs ≡ true → testsIn fs ≤ n → questionOf (run fs r n (start fs)) ≡ nothing
+  run-final n h l = run-ends n (start fs) (well-start fs h) (omega (arith, start-remaining fs))
+
+  pub asked-le : (n : ℕ) (s : State) → askedIn fs r n s ≤ n
+  unfolding askedIn
+  asked-le zero s = le-refl _
+  asked-le (suc n) s =
+      by-question (askedIn fs r (suc n) s ≤ suc n) s
+      (λ e. omega (arith, asked-none fs r (suc n) s e))
+      (λ q e. omega (arith, asked-ask fs r n q s e, asked-le n (advance fs r s)))
+
+  pub asked-tests : (n : ℕ) → wellFilters fs ≡ true → askedIn fs r n (start fs) ≤ testsIn fs
+  asked-tests n h = omega (arith, asked-remaining n (start fs) (well-start fs h), start-remaining fs)
+
+  -- Past the end nothing changes.
+  past : (n m : ℕ) (s : State) → n ≤ m → questionOf (run fs r n s) ≡ nothing → (run fs r m s ≡ run fs r n s) × (askedIn fs r m s ≡ askedIn fs r n s)
+  past n m s l e = picks-run fs r m (run-picks fs r n s) (omega (arith, asked-le n s)) (inr e)
+
+  pub run-past : (n m : ℕ) (s : State) → n ≤ m → questionOf (run fs r n s) ≡ nothing → run fs r m s ≡ run fs r n s
+  run-past n m s l e = past n m s l e .0
+
+  pub asked-past : (n m : ℕ) (s : State) → n ≤ m → questionOf (run fs r n s) ≡ nothing → askedIn fs r m s ≡ askedIn fs r n s
+  asked-past n m s l e = past n m s l e .1

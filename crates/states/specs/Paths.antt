@@ -1,8 +1,9 @@
--- Demands 2 and 3 about one path, in one place: the state after n questions of the frame whose field k reads r k.
---   after fs r n      that state
---   matchSet fs r     the match set as a bit set
---   PathTruth fs r n  what it promises
-use Prim.Native.Nat.{ℕ, _≤_}
+-- Demands 2 and 3 about one path of the frame whose field k reads r k, in one place, whichever remaining tests it asks.
+--   after fs r n        the state after n of document 01's questions
+--   matchSet fs r       the match set as a bit set
+--   PathTruth fs r n s  what the state s promises that n questions have led to
+use Prim.Native.Nat.{ℕ, _+_, _≤_}
+use native.Mathlib.Omega.{arith}
 use mathlib.Core.Path.{_≡_, ap}
 use mathlib.Core.Bool.{true, false, _&&_}
 use mathlib.Core.List.{List}
@@ -14,13 +15,15 @@ use Rattle.sets.specs.Laws.{tally-ext, member-tally}
 use Rattle.lists.specs.Accepted.{wellFilters}
 use Rattle.lists.specs.Filters.{Filter, testsIn}
 use Rattle.lists.specs.Ranks.{matches}
-use Rattle.states.specs.States.{State, standing, isOut, start, nothing, questionOf, sure, isOpen, sureSet, outSet}
+use Rattle.states.specs.States.{State, standing, isOut, start, nothing, questionOf, sure, isOpen, sureSet, outSet, remaining}
 use Rattle.states.specs.Runs.{run, askedIn}
+use Rattle.states.specs.Choices.{Path, path-free}
+use Rattle.states.specs.Keeps.{run-path}
 use Rattle.states.specs.Well.{well-start}
-use Rattle.states.specs.Measure.{run-final, asked-le, asked-tests}
-use Rattle.states.specs.Truth.{Tells, InWidths, tells-start, tells-run}
-use Rattle.states.specs.Sure.{sure-matches, out-not-matches, final-sure, final-none-open}
-use Rattle.states.specs.Stays.{run-shut, run-sure-stays, run-out-stays}
+use Rattle.states.specs.Measure.{none-remaining, leads-tests}
+use Rattle.states.specs.Truth.{Tells, InWidths, tells-start, path-tells}
+use Rattle.states.specs.Sure.{Shut, sure-matches, out-not-matches, final-sure, final-none-open}
+use Rattle.states.specs.Stays.{shut-start, leads-shut, leads-sure, leads-out}
 
 abbrev pub after : List Filter → (ℕ → Reading) → ℕ → State
 after fs r n = run fs r n (start fs)
@@ -41,44 +44,43 @@ pub member-match : (fs : List Filter) (r : ℕ → Reading) (i : ℕ) → member
 unfolding matchSet
 member-match fs r i = member-tally (length fs) (λ j. matches fs r j) i
 
-pub record PathTruth (fs : List Filter) (r : ℕ → Reading) (n : ℕ) : Type 0 where
-  -- A sure filter is in the match set, an out one is not.
-  pub sure-true : (i : ℕ) → sure fs (after fs r n) i ≡ true → matches fs r i ≡ true
-  pub out-true : (i : ℕ) → isOut (standing (after fs r n) i) ≡ true → matches fs r i ≡ false
-  -- With an allowance of the list's tests nothing is left to ask, the sure filters are the match set, and none is open.
-  pub ended : testsIn fs ≤ n → questionOf (after fs r n) ≡ nothing
-  pub settled : testsIn fs ≤ n → (i : ℕ) → sure fs (after fs r n) i ≡ matches fs r i
-  pub settled-set : testsIn fs ≤ n → sureSet fs (after fs r n) ≡ matchSet fs r
-  pub none-open : testsIn fs ≤ n → (i : ℕ) → isOpen fs (after fs r n) i ≡ false
-  -- A greater allowance takes nothing back.
-  pub sure-kept : (m i : ℕ) → n ≤ m → sure fs (after fs r n) i ≡ true → sure fs (after fs r m) i ≡ true
-  pub out-kept : (m i : ℕ) → n ≤ m → isOut (standing (after fs r n) i) ≡ true → isOut (standing (after fs r m) i) ≡ true
-  -- No more questions than the allowance, nor than the list's tests.
-  pub asked-allowed : askedIn fs r n (start fs) ≤ n
-  pub asked-few : askedIn fs r n (start fs) ≤ testsIn fs
+-- The state s that n questions of the frame have led to from the start, each any of the remaining tests that it met.
+pub record PathTruth (fs : List Filter) (r : ℕ → Reading) (n : ℕ) (s : State) : Type 0 where
+  -- What it says is true of the frame: a sure filter is in the match set, an out one is not.
+  pub tells : Tells fs r s
+  pub sure-true : (i : ℕ) → sure fs s i ≡ true → matches fs r i ≡ true
+  pub out-true : (i : ℕ) → isOut (standing s i) ≡ true → matches fs r i ≡ false
+  -- Where nothing is left to ask, the sure filters are the match set, and none is open.
+  pub settled : questionOf s ≡ nothing → (i : ℕ) → sure fs s i ≡ matches fs r i
+  pub settled-set : questionOf s ≡ nothing → sureSet fs s ≡ matchSet fs r
+  pub none-open : questionOf s ≡ nothing → (i : ℕ) → isOpen fs s i ≡ false
+  -- Further questions take nothing back.
+  pub sure-kept : {k : ℕ} {t : State} → Path fs r k s t → (i : ℕ) → sure fs s i ≡ true → sure fs t i ≡ true
+  pub out-kept : {k : ℕ} {t : State} → Path fs r k s t → (i : ℕ) → isOut (standing s i) ≡ true → isOut (standing t i) ≡ true
+  -- There are no more questions than the list has tests, and after as many nothing is left to ask.
+  pub few : n ≤ testsIn fs
+  pub ended : testsIn fs ≤ n → questionOf s ≡ nothing
 
 module _ (fs : List Filter) (r : ℕ → Reading) (h : wellFilters fs ≡ true) (w : InWidths r) where
-  pub tells-after : (n : ℕ) → Tells fs r (after fs r n)
-  tells-after n = tells-run fs r w n (start fs) (well-start fs h) (tells-start fs r)
-
-  after-settled : (n : ℕ) → testsIn fs ≤ n → (i : ℕ) → sure fs (after fs r n) i ≡ matches fs r i
-  after-settled n l i = final-sure fs r (after fs r n) (tells-after n) (run-final fs r n h l) i
-
-  after-set : (n : ℕ) → testsIn fs ≤ n → sureSet fs (after fs r n) ≡ matchSet fs r
+  pub path-truth : {n : ℕ} {s : State} → Path fs r n (start fs) s → PathTruth fs r n s
   unfolding sureSet matchSet
-  after-set n l = ap setOf (tally-ext (length fs) (λ i. sure fs (after fs r n) i) (λ i. matches fs r i) (λ i _. after-settled n l i))
-
-  pub path-truth : (n : ℕ) → PathTruth fs r n
-  path-truth n =
+  path-truth {n} {s} p =
+      let t : Tells fs r s = path-tells fs r w p (well-start fs h) (tells-start fs r) in
+      let shut : Shut fs s = leads-shut fs (path-free fs r p) (shut-start fs) in
+      let many : n + remaining s ≤ testsIn fs = leads-tests fs h (path-free fs r p) in
       record {
-        sure-true = λ i e. sure-matches fs r (after fs r n) (tells-after n) i e;
-        out-true = λ i e. out-not-matches fs r (after fs r n) (tells-after n) i e;
-        ended = λ l. run-final fs r n h l;
-        settled = λ l i. after-settled n l i;
-        settled-set = λ l. after-set n l;
-        none-open = λ l i. final-none-open fs (after fs r n) (run-shut fs r n) (run-final fs r n h l) i;
-        sure-kept = λ m i l e. run-sure-stays fs r n m (start fs) i l e;
-        out-kept = λ m i l e. run-out-stays fs r n m (start fs) i l e;
-        asked-allowed = asked-le fs r n (start fs);
-        asked-few = asked-tests fs r n h;
+        tells = t;
+        sure-true = λ i e. sure-matches fs r s t i e;
+        out-true = λ i e. out-not-matches fs r s t i e;
+        settled = λ e i. final-sure fs r s t e i;
+        settled-set = λ e. ap setOf (tally-ext (length fs) (λ i. sure fs s i) (λ i. matches fs r i) (λ i _. final-sure fs r s t e i));
+        none-open = λ e i. final-none-open fs s shut e i;
+        sure-kept = λ q i e. leads-sure fs (path-free fs r q) i e;
+        out-kept = λ q i e. leads-out fs (path-free fs r q) i e;
+        few = omega arith;
+        ended = λ l. none-remaining s (omega arith);
       }
+
+  -- The same of the path by document 01's questions.
+  pub run-truth : (n : ℕ) → PathTruth fs r (askedIn fs r n (start fs)) (after fs r n)
+  run-truth n = path-truth (run-path fs r n (start fs))

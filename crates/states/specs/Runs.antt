@@ -4,7 +4,10 @@
 --   run fs r n s       after n questions at most
 --   askedIn fs r n s   how many were asked
 --   follow fs os s     the state after the outcomes os, whatever frame gave them
+--   asks a             the question a asks something
+--   asksAll fs os s    each of the outcomes os answers a question of the state that it meets
 use Prim.Native.Nat.{ℕ, zero, suc, _+_}
+use mathlib.Core.Bool.{Bool, true, false, _&&_}
 use mathlib.Core.List.{List, [], _∷_}
 use Rattle.residue.specs.Facts.{outcomeOf}
 use Rattle.residue.specs.declared.Reading.{Reading}
@@ -37,3 +40,11 @@ askedIn fs r (suc n) s = askedAt (questionOf s) (askedIn fs r n (advance fs r s)
 unfoldable pub follow : List Filter → List Outcome → State → State
 follow fs [] s = s
 follow fs (o ∷ os) s = follow fs os (step fs o s)
+
+unfoldable pub asks : Question → Bool
+asks nothing = false
+asks (ask q) = true
+
+unfoldable pub asksAll : List Filter → List Outcome → State → Bool
+asksAll fs [] s = true
+asksAll fs (o ∷ os) s = asks (questionOf s) && asksAll fs os (step fs o s)

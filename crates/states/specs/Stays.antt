@@ -10,9 +10,10 @@ use Rattle.residue.specs.declared.Fact.{Fact}
 use Rattle.residue.specs.declared.Outcome.{Outcome}
 use Rattle.lists.specs.Filters.{Item, Filter}
 use Rattle.states.specs.States.{Standing, out, left, State, standing, isHeld, isOut, cut, cutStanding, beaten, closed, allLeft, start, stepBy, sure}
-use Rattle.states.specs.Runs.{wayOf, run}
+use Rattle.states.specs.Runs.{run, askedIn}
 use Rattle.states.specs.Standings.{factBy, divided, step-closes, standing-divided, standing-closed, beaten-where, where-beaten, length-step, length-start}
-use Rattle.states.specs.Keeps.{run-keeps, run-more}
+use Rattle.states.specs.Choices.{Leads, Free, leads-keep, path-free}
+use Rattle.states.specs.Keeps.{run-path, run-further}
 use Rattle.states.specs.Sure.{clash, not-held-out, Shut, sure-held, sure-above, held-sure}
 
 -- ---- closing
@@ -86,19 +87,39 @@ pub sure-stays : (fs : List Filter) (o : Outcome) (q : Item) (s : State) (i : �
 sure-stays fs o q s i e =
     held-sure fs (stepBy fs o q s) i (sure-held-stays fs o q s i e) (λ j l a. out-stays fs o q s j (sure-above fs s i e j l a))
 
--- ---- along the path of a frame
+-- ---- along a path
 
-pub run-shut : (fs : List Filter) (r : ℕ → Reading) (n : ℕ) → Shut fs (run fs r n (start fs))
-run-shut fs r n = run-keeps fs r (Shut fs) (λ q s _ _. shut-step fs (wayOf r q) q s) n (start fs) (shut-start fs)
+module _ (fs : List Filter) {n : ℕ} {s t : State} (p : Leads fs Free n s t) where
+  pub leads-shut : Shut fs s → Shut fs t
+  leads-shut c = leads-keep (Shut fs) (λ q o x _ _. shut-step fs o q x) p c
 
-pub run-sure-stays :
-    (fs : List Filter) (r : ℕ → Reading) (n m : ℕ) (s : State) (i : ℕ) → n ≤ m → sure fs (run fs r n s) i ≡ true → sure fs (run fs r m s) i ≡ true
-run-sure-stays fs r n m s i l e = run-more fs r (λ (x : State). sure fs x i ≡ true) (λ q x _ z. sure-stays fs (wayOf r q) q x i z) n m s l e
+  pub leads-sure : (i : ℕ) → sure fs s i ≡ true → sure fs t i ≡ true
+  leads-sure i e = leads-keep (λ (x : State). sure fs x i ≡ true) (λ q o x _ z. sure-stays fs o q x i z) p e
 
-pub run-out-stays :
-    (fs : List Filter) (r : ℕ → Reading) (n m : ℕ) (s : State) (i : ℕ) → n ≤ m → isOut (standing (run fs r n s) i) ≡ true → isOut (standing (run fs r m s) i) ≡ true
-run-out-stays fs r n m s i l e = run-more fs r (λ (x : State). isOut (standing x i) ≡ true) (λ q x _ z. out-stays fs (wayOf r q) q x i z) n m s l e
+  pub leads-out : (i : ℕ) → isOut (standing s i) ≡ true → isOut (standing t i) ≡ true
+  leads-out i e = leads-keep (λ (x : State). isOut (standing x i) ≡ true) (λ q o x _ z. out-stays fs o q x i z) p e
 
-pub length-run : (fs : List Filter) (r : ℕ → Reading) (n : ℕ) → length (run fs r n (start fs)) ≡ length fs
-length-run fs r n =
-    run-keeps fs r (λ (x : State). length x ≡ length fs) (λ q x _ e. length-step fs (wayOf r q) q x ∙ e) n (start fs) (length-start fs)
+  pub leads-length : length t ≡ length s
+  leads-length = leads-keep (λ (x : State). length x ≡ length s) (λ q o x _ e. length-step fs o q x ∙ e) p refl
+
+-- ---- along the path of a frame by document 01's questions
+
+module _ (fs : List Filter) (r : ℕ → Reading) (n : ℕ) where
+  starts : Leads fs Free (askedIn fs r n (start fs)) (start fs) (run fs r n (start fs))
+  starts = path-free fs r (run-path fs r n (start fs))
+
+  pub run-shut : Shut fs (run fs r n (start fs))
+  run-shut = leads-shut fs starts (shut-start fs)
+
+  pub length-run : length (run fs r n (start fs)) ≡ length fs
+  length-run = leads-length fs starts ∙ length-start fs
+
+  module _ (m : ℕ) (s : State) (i : ℕ) (l : n ≤ m) where
+    further : (k : ℕ) × Leads fs Free k (run fs r n s) (run fs r m s)
+    further = let p = run-further fs r n m s l in (p .0, path-free fs r (p .1))
+
+    pub run-sure-stays : sure fs (run fs r n s) i ≡ true → sure fs (run fs r m s) i ≡ true
+    run-sure-stays e = leads-sure fs (further .1) i e
+
+    pub run-out-stays : isOut (standing (run fs r n s) i) ≡ true → isOut (standing (run fs r m s) i) ≡ true
+    run-out-stays e = leads-out fs (further .1) i e

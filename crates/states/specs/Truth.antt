@@ -30,9 +30,10 @@ use Rattle.lists.specs.Ranks.{testsOf, above, allHold, fires}
 use Rattle.states.specs.States.{Standing, out, left, State, standing, isHeld, keep, join, cut, cutStanding, beaten, closed, allLeft, start, stepBy}
 use Rattle.states.specs.Runs.{wayOf, run}
 use Rattle.states.specs.Standings.{factBy, divided, step-closes, standing-divided, standing-closed, standing-all, standing-beyond, beaten-where}
-use Rattle.states.specs.Well.{wellState, item-on, fact-known, well-question, well-step}
+use Rattle.states.specs.Well.{wellState, item-on, fact-known, well-left, well-step}
 use Rattle.states.specs.Every.{everyItem, everyStanding, every-standing}
-use Rattle.states.specs.Keeps.{run-keeps}
+use Rattle.states.specs.Choices.{Path, path-keeps}
+use Rattle.states.specs.Keeps.{run-path}
 
 unfoldable pub holdsIn : (ℕ → Reading) → Standing → Bool
 holdsIn r out = false
@@ -157,10 +158,10 @@ module _ (fs : List Filter) (r : ℕ → Reading) where
     -- ---- the path of the frame
 
     -- A well-formed state that tells the truth goes to one.
-    good-run : (n : ℕ) (s : State) → (wellState s ≡ true) × Tells fs r s → (wellState (run fs r n s) ≡ true) × Tells fs r (run fs r n s)
-    good-run n s g =
-        run-keeps fs r (λ (x : State). (wellState x ≡ true) × Tells fs r x)
-        (λ q x e g. (well-step fs (wayOf r q) q x (g .0), tells-step q x (well-question x q (g .0) e) (g .0) (g .1))) n s g
+    pub path-tells : {n : ℕ} {s t : State} → Path fs r n s t → wellState s ≡ true → Tells fs r s → Tells fs r t
+    path-tells p h t =
+        path-keeps fs r (λ (x : State). (wellState x ≡ true) × Tells fs r x)
+        (λ q x e g. (well-step fs (wayOf r q) q x (g .0), tells-step q x (well-left x q (g .0) e) (g .0) (g .1))) p (h, t) .1
 
     pub tells-run : (n : ℕ) (s : State) → wellState s ≡ true → Tells fs r s → Tells fs r (run fs r n s)
-    tells-run n s h t = good-run n s (h, t) .1
+    tells-run n s h t = path-tells (run-path fs r n s) h t

@@ -20,11 +20,12 @@ use Rattle.fields.specs.Widths.{full, fieldCount}
 use Rattle.lists.specs.Accepted.{wellItem, wellItems, wellFilter, wellFilters}
 use Rattle.lists.specs.Filters.{Item, Filter}
 use Rattle.lists.specs.Laws.{well-items}
-use Rattle.states.specs.States.{State, allLeft, start, ask, questionOf, stepBy, step}
-use Rattle.states.specs.Runs.{wayOf, advance, run, follow}
+use Rattle.states.specs.States.{State, allLeft, start, ask, questionOf, stepBy}
+use Rattle.states.specs.Runs.{run, follow}
 use Rattle.states.specs.Standings.{factBy}
-use Rattle.states.specs.Keeps.{advance-keeps, run-keeps, step-keeps, follow-keeps}
-use Rattle.states.specs.Every.{everyItem, everyStanding, everyState, leaves, every-question, every-closed, every-step}
+use Rattle.states.specs.Choices.{leftIn, Leads, Free, leads-keep, path-free}
+use Rattle.states.specs.Keeps.{run-path, follow-leads}
+use Rattle.states.specs.Every.{everyItem, everyStanding, everyState, leaves, every-left, every-question, every-closed, every-step}
 
 abbrev pub wellState : State → Bool
 wellState s = everyState wellItem s
@@ -66,6 +67,9 @@ well-start fs h = every-closed wellItem fs (map allLeft fs) (well-all fs h)
 
 -- ---- the question and the step
 
+pub well-left : (s : State) (q : Item) → wellState s ≡ true → leftIn q s ≡ true → wellItem q ≡ true
+well-left s q h e = every-left wellItem s q h e
+
 pub well-question : (s : State) (q : Item) → wellState s ≡ true → questionOf s ≡ ask q → wellItem q ≡ true
 well-question s q h e = every-question wellItem s q h e
 
@@ -85,14 +89,11 @@ well-step fs o q s h = every-step wellItem wellItem fs o q s (λ t g e. item-lea
 
 -- ---- paths
 
-pub well-next : (fs : List Filter) (o : Outcome) (s : State) → wellState s ≡ true → wellState (step fs o s) ≡ true
-well-next fs o s h = step-keeps fs (λ (x : State). wellState x ≡ true) (λ o q x _ g. well-step fs o q x g) o s h
+pub well-leads : {fs : List Filter} {n : ℕ} {s t : State} → Leads fs Free n s t → wellState s ≡ true → wellState t ≡ true
+well-leads {fs} p h = leads-keep (λ (x : State). wellState x ≡ true) (λ q o x _ g. well-step fs o q x g) p h
 
 pub well-follow : (fs : List Filter) (os : List Outcome) (s : State) → wellState s ≡ true → wellState (follow fs os s) ≡ true
-well-follow fs os s h = follow-keeps fs (λ (x : State). wellState x ≡ true) (λ o q x _ g. well-step fs o q x g) os s h
-
-pub well-advance : (fs : List Filter) (r : ℕ → Reading) (s : State) → wellState s ≡ true → wellState (advance fs r s) ≡ true
-well-advance fs r s h = advance-keeps fs r (λ (x : State). wellState x ≡ true) (λ q x _ g. well-step fs (wayOf r q) q x g) s h
+well-follow fs os s h = well-leads (follow-leads fs os s .1) h
 
 pub well-run : (fs : List Filter) (r : ℕ → Reading) (n : ℕ) (s : State) → wellState s ≡ true → wellState (run fs r n s) ≡ true
-well-run fs r n s h = run-keeps fs r (λ (x : State). wellState x ≡ true) (λ q x _ g. well-step fs (wayOf r q) q x g) n s h
+well-run fs r n s h = well-leads (path-free fs r (run-path fs r n s)) h
