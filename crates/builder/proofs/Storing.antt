@@ -1,13 +1,13 @@
--- Words put into lent memory at a place: what lies before and behind stays. So a state and its record are stored behind the others.
+-- A state and its record are put into lent memory behind the others, which stay.
 -- Assumes nothing.
 use Prim.Native.Nat.{ℕ, zero, suc, _+_, _*_, _-_, _≤_}
 use mathlib.Core.Path.{_≡_, refl, sym, ap, ap₂, _∙_, subst}
 use mathlib.Core.Bool.{Bool, true, false, cond}
-use mathlib.Core.List.{List, [], _∷_, _++_, append-assoc}
+use mathlib.Core.List.{List, [], _∷_, _++_}
 use native.Mathlib.Omega.{arith}
-use borrow.Rule.Slice.PartMut.{midOf, postOf, putMid, take-put}
-use lib.ListN.{length, take, drop, length-drop, length-append, take-append-drop}
-use lib.Seq.{take-at, drop-at, drop-append-le, drop-drop, length-take-le}
+use borrow.Rule.Slice.PartMut.{midOf, putMid}
+use lib.ListN.{length, take, drop, length-append}
+use Rattle.words.specs.laws.Lending.{later, put-before, put-there, put-behind}
 use Rattle.tables.specs.Tables.{recordWords}
 use Rattle.slots.specs.Words.{filterSlot, slotWords}
 use Rattle.slots.specs.Slots.{freshWords, questionIn, fourWords, hasTest, sureSetIn, outSetIn}
@@ -15,42 +15,7 @@ use Rattle.machine.specs.Box.{slotsIn}
 use Rattle.automaton.specs.Placing.{stored, freshRecord}
 use Rattle.builder.specs.Memory.{slotAt, recordAt, statesIn, recordsAt, memoryOf}
 use Rattle.builder.specs.MemoryLaws.{states-more, records-more}
-use Rattle.builder.specs.Placed.{later}
 use Rattle.builder.specs.Promises.{Store, Stored}
-
--- ---- k words w put in from place a on, in a tail that was lent
-
-module _ (a k : ℕ) (l w p : List ℕ) (long : length w ≡ k) (room : a + k ≤ length l)
-    (put : p ≡ w ++ drop k (midOf a (length l - a) l)) where
-  abbrev put-in : List ℕ
-  put-in = putMid a (length l - a) l p
-
-  -- The old words of the tail that stay.
-  abbrev stay : List ℕ
-  stay = drop k (midOf a (length l - a) l) ++ postOf a (length l - a) l
-
-  tail-is : drop a put-in ≡ w ++ stay
-  tail-is =
-      drop-at (take a l) (p ++ postOf a (length l - a) l) a (length-take-le a l (omega arith))
-      ∙ ap (λ (x : List ℕ). x ++ postOf a (length l - a) l) put
-      ∙ append-assoc w (drop k (midOf a (length l - a) l)) (postOf a (length l - a) l)
-
-  pub put-before : take a put-in ≡ take a l
-  put-before = take-put a (length l - a) l p (omega arith)
-
-  pub put-there : take k (drop a put-in) ≡ w
-  put-there = ap (λ (x : List ℕ). take k x) tail-is ∙ take-at w stay k long
-
-  pub put-behind : drop (a + k) put-in ≡ drop (a + k) l
-  put-behind =
-      let tail = length-drop a l in
-      let part = length-take-le (length l - a) (drop a l) (omega arith) in
-      sym (drop-drop k a put-in)
-      ∙ ap (λ (x : List ℕ). drop k x) tail-is
-      ∙ drop-at w stay k long
-      ∙ sym (drop-append-le k (midOf a (length l - a) l) (postOf a (length l - a) l) (omega arith))
-      ∙ ap (λ (x : List ℕ). drop k x) (take-append-drop (length l - a) (drop a l))
-      ∙ drop-drop k a l
 
 -- ---- a state and its record
 

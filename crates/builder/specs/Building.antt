@@ -15,6 +15,7 @@ use Rattle.lists.specs.Refusals.{listed}
 use Rattle.lists.specs.declared.Listed.{Listed}
 use Rattle.lists.specs.declared.Listed.the-variants.{Accepted, Refused}
 use Rattle.sets.specs.Sets.{tally}
+use Rattle.words.specs.Lent.{cleared}
 use Rattle.tables.specs.Tables.{recordWords, maxSlots, slotsOf}
 use Rattle.slots.specs.Words.{slotWords, written}
 use Rattle.automaton.specs.Machines.{Machine, recordOf, recordsOf, flat}
@@ -22,7 +23,7 @@ use Rattle.automaton.specs.Placing.{Memory, Placed, full, room}
 use Rattle.automaton.specs.Placed.{memory}
 use Rattle.machine.specs.Box.{boxOf, slotsIn, statesOf, recordsIn}
 use Rattle.machine.specs.Carried.{whole}
-use Rattle.builder.specs.Outcome.{Left, cleared, tableWords, scratchWords, refused, noRoom, placed, accepted, outcomeBy, outcome, Answered}
+use Rattle.builder.specs.Outcome.{Left, tableWords, scratchWords, refused, noRoom, placed, accepted, outcomeBy, outcome, Answered}
 use Rattle.builder.specs.Memory.{recordAt, recordsAt, memoryOf, outOf}
 use Rattle.builder.specs.Placed.{length-states}
 use Rattle.builder.specs.Promises.{Grown, AfterKept}

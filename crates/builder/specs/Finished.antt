@@ -9,9 +9,10 @@ use Rattle.lists.specs.Filters.{filtersOf}
 use Rattle.lists.specs.Refusals.{listed}
 use Rattle.lists.specs.Ranks.{rankSets}
 use Rattle.lists.specs.declared.Listed.the-variants.{Accepted}
+use Rattle.words.specs.Lent.{cleared}
 use Rattle.tables.specs.Tables.{recordWords, maxSlots, slotsOf}
 use Rattle.slots.specs.Words.{slotWords}
-use Rattle.builder.specs.Outcome.{cleared, accepted, Answered}
+use Rattle.builder.specs.Outcome.{accepted, Answered}
 use Rattle.builder.specs.Building.{Startable, Started, built-states, built-full, answered-short}
 use Rattle.builder.specs.Promises.{Grown}
 use Rattle.builder.specs.declared.Room.{Room}

@@ -14,22 +14,11 @@ use lib.Seq.{ext-getD, getD-take, getD-drop, getD-set-same, getD-set-other, drop
 use borrow.Author.Tests.{eqb-true, eqb-false, eq-eqb, ne-eqb}
 use Rattle.sets.specs.Sets.{tally}
 use Rattle.sets.specs.Laws.{tally-ext, tally-more, getD-tally, length-tally}
+use Rattle.words.specs.laws.Lending.{part-kept}
 use Rattle.tables.specs.Tables.{recordWords}
 use Rattle.slots.specs.Words.{filterSlot, slotWords}
 use Rattle.lists.specs.Filters.{maxFilters}
 use Rattle.builder.specs.Memory.{slotAt, recordAt, statesIn, recordsAt}
-
--- A part that lies within the first m elements does not see the others.
-pub part-within : {A : Type 0} (k j m : ℕ) (l : List A) → j + k ≤ m → take k (drop j (take m l)) ≡ take k (drop j l)
-part-within k zero m l h = take-take k m l (subst (λ (x : ℕ). x ≤ m) (zero-add k) h)
-part-within k (suc j) zero l h = absurd (omega arith)
-part-within k (suc j) (suc m) [] h = refl
-part-within k (suc j) (suc m) (x ∷ l) h = part-within k j m l (omega arith)
-
--- What agrees with s on its first m elements has the same parts there.
-pub part-kept : {A : Type 0} (k j m : ℕ) (s s' : List A) → j + k ≤ m → take m s' ≡ take m s → take k (drop j s') ≡ take k (drop j s)
-part-kept {A} k j m s s' h e =
-    sym (part-within k j m s' h) ∙ ap (λ (l : List A). take k (drop j l)) e ∙ part-within k j m s h
 
 pub slot-kept : (n used i : ℕ) (s s' : List ℕ) → n ≤ maxFilters → i < used → take (slotWords * used) s' ≡ take (slotWords * used) s → slotAt n s' i ≡ slotAt n s i
 unfolding slotAt

@@ -1,15 +1,16 @@
 -- Why the builder's functions place what the theory places: a law for each way out of the way builder and of the state builder.
 -- Assumes nothing.
-use Prim.Native.Nat.{ℕ, zero, suc, _+_, _-_, _*_, _≤_, _<_}
+use Prim.Native.Nat.{ℕ, zero, suc, _+_, _*_, _≤_, _<_}
 use mathlib.Core.Path.{_≡_, refl, ap, sym, _∙_, subst}
 use mathlib.Core.Bool.{true, false}
 use mathlib.Core.List.{List, []}
 use native.Mathlib.Omega.{arith}
 use lib.ListN.{length, take, drop, set, getD}
-use lib.Seq.{drop-set-lt, take-take, drop-drop, getD-at}
+use lib.Seq.{drop-set-lt, getD-at}
 use Rattle.residue.specs.declared.Outcome.{Outcome}
 use Rattle.residue.specs.declared.Outcome.the-variants as O
 use Rattle.sets.specs.Laws.{length-tally, getD-tally}
+use Rattle.words.specs.laws.Lending.{later, earlier}
 use Rattle.tables.specs.Tables.{recordWords}
 use Rattle.slots.specs.Words.{slotWords}
 use Rattle.slots.specs.Slots.{stepWords, asksIn}
@@ -47,17 +48,6 @@ drop-linked : (t : List ℕ) (at k : ℕ) (o : Outcome) (v : ℕ) → at < k →
 drop-linked t at k o v h =
     let below = next-word-within o in
     drop-set-lt (recordWords * k) t (recordWords * at + nextWord o) v (omega arith)
-
--- What agrees from place j on agrees from every later place on.
-pub later : {A : Type 0} (j k : ℕ) (a b : List A) → j ≤ k → drop j a ≡ drop j b → drop k a ≡ drop k b
-later {A} j k a b h e =
-    let split : j + (k - j) ≡ k = omega arith in
-    subst (λ (m : ℕ). drop m a ≡ drop m b) split
-    (sym (drop-drop (k - j) j a) ∙ ap (λ (l : List A). drop (k - j) l) e ∙ drop-drop (k - j) j b)
-
--- What agrees up to place k agrees up to every earlier place.
-pub earlier : {A : Type 0} (j k : ℕ) (a b : List A) → j ≤ k → take k a ≡ take k b → take j a ≡ take j b
-earlier {A} j k a b h e = sym (take-take j k a h) ∙ ap (λ (l : List A). take j l) e ∙ take-take j k b h
 
 module _ (n slots : ℕ) (ranks : List ℕ) (at used : ℕ) (o : Outcome) (t s : List ℕ) (ready : Ready n slots ranks at used t s) where
   abbrev pub stepped : List ℕ

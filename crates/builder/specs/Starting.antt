@@ -8,6 +8,7 @@ use lib.ListN.{getD}
 use borrow.Author.Tests.{lt-leb}
 use Rattle.lists.specs.Filters.{filtersOf}
 use Rattle.sets.specs.Sets.{tally}
+use Rattle.words.specs.laws.Lending.{later}
 use Rattle.tables.specs.Tables.{recordWords}
 use Rattle.slots.specs.Slots.{startWords}
 use Rattle.machine.specs.Box.{slotsIn}
@@ -16,7 +17,6 @@ use Rattle.machine.specs.Remaining.{GoodWords, testsLeft, words-start, left-sta
 use Rattle.automaton.specs.Machines.{Machine}
 use Rattle.automaton.specs.Placing.{Memory, Placed, full, stored, placeState, placeAll}
 use Rattle.builder.specs.Memory.{slotAt, statesIn, recordsAt, memoryOf, outOf}
-use Rattle.builder.specs.Placed.{later}
 use Rattle.builder.specs.Promises.{Stored, StatePlaced, Grown, AfterKept}
 use Rattle.builder.specs.Building.{Startable, Started}
 use Rattle.builder.specs.declared.Room.{Room}

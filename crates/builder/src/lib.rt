@@ -10,7 +10,6 @@ ghost use Rattle.builder.specs.Outcome.{Answered, accepted, outcome};
 mod meet;
 mod place;
 mod start;
-mod words;
 
 // The number of states, or a refusal's number with the filter's number or 0.
 pub enum Built {

@@ -41,7 +41,7 @@ pub fn store(
     requires { ⌜ Store n slots (now ranks) used (now table) (now scratch) (now candidate) ⌝ }
     ensures { λ _. ⌜ Stored n slots (now (ranks .entry)) used (now (table .entry)) (now (scratch .entry)) (now (candidate .entry)) (now (table .exit)) (now (scratch .exit)) ⌝ }
 {
-    crate::words::copy_into(&mut scratch[1024 * used..], candidate);
+    words::copy_into(&mut scratch[1024 * used..], candidate);
     slots::write_record(candidate, n, ranks, &mut table[9 * used..]);
 }
 

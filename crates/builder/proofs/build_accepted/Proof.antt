@@ -8,8 +8,9 @@ use lib.ListN.{length}
 use denote.Ref.{now}
 use Rattle.lists.specs.Filters.{filtersOf}
 use Rattle.lists.specs.Laws.{length-rankSets}
+use Rattle.words.specs.Lent.{cleared}
 use Rattle.tables.specs.Tables.{recordWords, slotsOf}
-use Rattle.builder.specs.Outcome.{Answered, accepted, cleared}
+use Rattle.builder.specs.Outcome.{Answered, accepted}
 use Rattle.builder.specs.Finished as F
 use Rattle.builder.specs.declared.Built.the-variants as B
 use borrow.Author.Needs.{needs}
