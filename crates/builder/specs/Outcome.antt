@@ -4,7 +4,7 @@
 --   Left            the answer, every word of the table and every word of the scratch afterwards
 --   Answered        an answer and the words afterwards are those of an outcome
 --   outcome l t s   what building the list l in the table t with the scratch s comes to
-use Prim.Native.Nat.{ℕ, _*_, _+_}
+use Prim.Native.Nat.{ℕ, _*_}
 use mathlib.Core.Path.{_≡_}
 use mathlib.Core.Bool.{cond}
 use mathlib.Core.List.{List, _++_}

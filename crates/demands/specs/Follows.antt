@@ -1,13 +1,13 @@
 -- A walk over a table that has the records of a list at its front goes through the records of the states on the path.
 --   shownAt fs s k   what a walk answers that ends at the state s with k questions asked: done where s has no question, else stopped
-use Prim.Native.Nat.{ℕ, zero, suc, _+_, _*_, _<_}
+use Prim.Native.Nat.{ℕ, zero, suc, _+_, _<_}
 use native.Mathlib.Omega.{arith}
 use native.Mathlib.Nat.{add-zero}
 use mathlib.Core.Path.{_≡_, refl, sym, ap, _∙_, subst}
 use mathlib.Core.Bool.{Bool, true, false, cond}
-use mathlib.Core.List.{List, _++_}
-use lib.Dec.{ltb, eqb, lit<}
-use lib.ListN.{length, getD, List·getD-append}
+use mathlib.Core.List.{List, [], _++_}
+use lib.Dec.{ltb, eqb}
+use lib.ListN.{length, getD}
 use borrow.Author.Tests.{ltb-true, lt-ltb, lt-leb}
 use Rattle.residue.specs.Tests.{holds}
 use Rattle.residue.specs.Facts.{outcomeOf}
@@ -24,15 +24,14 @@ use Rattle.states.specs.States.{State, Question, nothing, ask, questionOf, step
 use Rattle.states.specs.Runs.{wayOf, advance, run, askedIn}
 use Rattle.states.specs.Well.{item-field}
 use Rattle.states.specs.Laws.{by-question, well-question, step-ask, advance-ask, asked-ask, asked-none, run-stays}
-use Rattle.automaton.specs.Machines.{meets, placeOf, recordOf, recordsOf}
-use Rattle.automaton.specs.Placing.{nextWord}
+use Rattle.automaton.specs.Machines.{meets, placeOf}
 use Rattle.automaton.specs.Places.{place-below}
-use Rattle.automaton.specs.Records.{records-long, records-word, record-question, record-next, record-sets}
-use Rattle.tables.specs.Tables.{wordOf, kindAt, fieldAt, maskAt, valueAt, holdsAt, failsAt, sureAt, outAt}
+use Rattle.tables.specs.Tables.{nextAt, setAt, wordOf, questionAt, wayAt, sureSetAt, outSetAt, kindAt, fieldAt, maskAt, valueAt, holdsAt, failsAt, sureAt, outAt}
 use Rattle.states.specs.Runs.{asks}
 use Rattle.slots.specs.Laws.{questionWords}
 use Rattle.machine.specs.Box.{boxOf, statesOf, recordsIn}
-use Rattle.machine.specs.Laws.{box-lawful, states-good, state-good, states-closed, states-place}
+use Rattle.machine.specs.Laws.{state-good, states-closed, states-place}
+use Rattle.machine.specs.Front.{numbered, front-spells, front-way}
 use Rattle.matcher.specs.Walk.{Shown, done, stopped, damaged, nextBy, nextOf, walkFrom}
 use Rattle.demands.specs.Walks.{walk-ends, walk-stops, walk-goes}
 
@@ -66,34 +65,32 @@ module _ (fs : List Filter) (h : wellFilters fs ≡ true) (rest : List ℕ) wher
   abbrev place : State → ℕ
   place s = placeOf (boxOf fs) (statesOf fs) s
 
-  -- ---- the record of a state, word by word
+  -- ---- the record of a state
 
   module _ (s : State) (e : meets (boxOf fs) (statesOf fs) s ≡ true) where
-    word-at : (j : ℕ) → j < 9 → wordOf table (place s) j ≡ getD (recordOf (boxOf fs) (statesOf fs) s) j 0
-    unfolding wordOf recordsIn
-    word-at j l =
-        let met = statesOf fs in
-        let below = place-below (boxOf fs) met s e in
-        List·getD-append (recordsOf (boxOf fs) met) rest 0 (9 * place s + j)
-        (omega (arith, records-long (box-lawful fs) met (states-good fs h)))
-        ∙ records-word (box-lawful fs) met (states-good fs h) (place s) j s below l
-        ∙ ap (λ (x : State). getD (recordOf (boxOf fs) met x) j 0) (states-place fs h s s e)
+    below : place s < length (statesOf fs)
+    below = place-below (boxOf fs) (statesOf fs) s e
 
-    question-at : (j : ℕ) → j < 4 → wordOf table (place s) j ≡ getD (questionWords (questionOf s)) j 0
-    question-at j l = word-at j (omega arith) ∙ record-question (box-lawful fs) (statesOf fs) s j (state-good fs h s e) l
+    is : numbered fs h rest (place s) below ≡ s
+    is = states-place fs h s [] e
+
+    question-at : questionAt table (place s) ≡ questionWords (questionOf s)
+    question-at = front-spells fs h rest (place s) below .question ∙ ap (λ (x : State). questionWords (questionOf x)) is
 
     sure-at : wordOf table (place s) sureAt ≡ sureSet fs s
-    sure-at = word-at 7 (lit< tt) ∙ record-sets (box-lawful fs) (statesOf fs) s 0 (state-good fs h s e)
+    unfolding sureSetAt setAt
+    sure-at = front-spells fs h rest (place s) below .sure ∙ ap (sureSet fs) is
 
     out-at : wordOf table (place s) outAt ≡ outSet fs s
-    out-at = word-at 8 (lit< tt) ∙ record-sets (box-lawful fs) (statesOf fs) s 1 (state-good fs h s e)
+    unfolding outSetAt setAt
+    out-at = front-spells fs h rest (place s) below .out ∙ ap (outSet fs) is
 
     -- ---- a final state
 
     module _ (f : questionOf s ≡ nothing) where
       final-kind : wordOf table (place s) kindAt ≡ 0
-      unfolding questionWords
-      final-kind = question-at 0 (lit< tt) ∙ ap (λ (a : Question). getD (questionWords a) 0 0) f
+      unfolding questionAt questionWords
+      final-kind = ap (λ (ws : List ℕ). getD ws 0 0) (question-at ∙ ap questionWords f)
 
     -- ---- a state that asks
 
@@ -102,25 +99,25 @@ module _ (fs : List Filter) (h : wellFilters fs ≡ true) (rest : List ℕ) wher
       unfolding asks
       asking = ap asks f
 
-      item-at : (j : ℕ) → j < 4 → wordOf table (place s) j ≡ getD (itemWords q) j 0
+      item-at : questionAt table (place s) ≡ itemWords q
       unfolding questionWords
-      item-at j l = question-at j l ∙ ap (λ (a : Question). getD (questionWords a) j 0) f
+      item-at = question-at ∙ ap questionWords f
 
       kind-at : wordOf table (place s) kindAt ≡ kindOf (q .test)
-      unfolding itemWords
-      kind-at = item-at 0 (lit< tt)
+      unfolding questionAt itemWords
+      kind-at = ap (λ (ws : List ℕ). getD ws 0 0) item-at
 
       field-at : wordOf table (place s) fieldAt ≡ q .field
-      unfolding itemWords
-      field-at = item-at 1 (lit< tt)
+      unfolding questionAt itemWords
+      field-at = ap (λ (ws : List ℕ). getD ws 1 0) item-at
 
       mask-at : wordOf table (place s) maskAt ≡ maskOf (q .test)
-      unfolding itemWords
-      mask-at = item-at 2 (lit< tt)
+      unfolding questionAt itemWords
+      mask-at = ap (λ (ws : List ℕ). getD ws 2 0) item-at
 
       value-at : wordOf table (place s) valueAt ≡ valueOf (q .test)
-      unfolding itemWords
-      value-at = item-at 3 (lit< tt)
+      unfolding questionAt itemWords
+      value-at = ap (λ (ws : List ℕ). getD ws 3 0) item-at
 
       not-final : eqb (wordOf table (place s) kindAt) 0 ≡ false
       not-final = rw kind-at (kind-range (q .test) .1)
@@ -131,17 +128,12 @@ module _ (fs : List Filter) (h : wellFilters fs ≡ true) (rest : List ℕ) wher
           let inside = ltb-true (q .field) fieldCount (item-field q (well-question s q (state-good fs h s e .well) f)) in
           rw (kind-at, field-at, kind-range (q .test) .0, kind-range (q .test) .1, lt-leb fieldCount (q .field) inside)
 
-      next-at : (o : Outcome) → wordOf table (place s) (nextWord o) ≡ place (step fs o s)
-      unfolding nextWord
-      next-at o = word-at (nextWord o) (below o) ∙ record-next (box-lawful fs) (statesOf fs) s o (state-good fs h s e) asking
-        where
-          below : (o : Outcome) → nextWord o < 9
-          below Holds = lit< tt
-          below Fails = lit< tt
-          below Absent = lit< tt
+      next-at : (o : Outcome) → wayAt table (place s) o ≡ place (step fs o s)
+      next-at o =
+          front-way fs h rest (place s) below o (ap (λ (x : State). asks (questionOf x)) is ∙ asking) ∙ ap (λ (x : State). place (step fs o x)) is
 
       next-by : (x : Reading) → nextBy table (place s) x ≡ place (step fs (outcomeOf (q .test) x) s)
-      unfolding nextBy outcomeOf nextWord
+      unfolding nextBy outcomeOf wayAt nextAt
       next-by R.Absent = next-at Absent
       next-by (R.Value x) = rw (kind-at, mask-at, value-at, test-round (q .test)) (go (holds (q .test) x))
         where

@@ -9,7 +9,7 @@ ghost use Rattle.lists.specs.Filters.{maxFilters, testWords, filtersOf};
 ghost use Rattle.lists.specs.Ranks.{Heads, aboveBy, rankSetBy, rankSets};
 ghost use Rattle.lists.specs.Refusals.{masked, testFault, wordsFault, testsFault, filterFault, listed};
 
-const MAX_FILTERS: usize = 32;
+pub const MAX_FILTERS: usize = 32;
 
 const MAX_TESTS: u32 = 8;
 

@@ -16,7 +16,7 @@ use Rattle.lists.specs.declared.Listed.{Listed}
 use Rattle.lists.specs.declared.Listed.the-variants.{Accepted, Refused}
 use Rattle.states.specs.States.{left, allLeft}
 use Rattle.slots.specs.Words.{filterSlot, itemsWords, writtenFilter, written}
-use Rattle.slots.specs.Steps.{over, cleared, item}
+use Rattle.slots.specs.Steps.{over, clearedFrom, item}
 use Rattle.slots.proofs.Cutting.{take-over, item-at, zeros}
 use Rattle.slots.proofs.Parts.{turn, one-less}
 
@@ -48,7 +48,7 @@ pub put-end : (count j : ℕ) (ws p W : List ℕ) → count ≤ j → p ++ items
 unfolding itemsOf itemsWords
 put-end count j ws p W h e = let z : count - j ≡ 0 = omega arith in sym (append-nil p) ∙ (rw z at e)
 
-pub fill-is : (count : ℕ) (ws d d' : List ℕ) → length d ≡ filterSlot → take (testWords * count) d ≡ itemsWords (itemsOf count ws) → d' ≡ cleared (testWords * count) d → d' ≡ writtenFilter (left (itemsOf count ws))
+pub fill-is : (count : ℕ) (ws d d' : List ℕ) → length d ≡ filterSlot → take (testWords * count) d ≡ itemsWords (itemsOf count ws) → d' ≡ clearedFrom (testWords * count) d → d' ≡ writtenFilter (left (itemsOf count ws))
 unfolding writtenFilter
 fill-is count ws d d' l e h =
     h ∙ ap₂ (λ (x y : List ℕ). x ++ y) e (zeros (length d - testWords * count) (filterSlot - testWords * length (itemsOf count ws)) (omega (arith, length-items count ws)))
