@@ -1,4 +1,4 @@
--- The state builder and the way builder meet their contracts: each way out is a law of specs/Placed. The measure is the number of tests that remain in the state of slot `at`, twice, and one more for the state builder.
+-- The state builder and the way builder meet their contracts: each way out is a law of specs/WaysPlaced. The measure is the number of tests that remain in the state of slot `at`, twice, and one more for the state builder.
 -- Assumes nothing.
 use mathlib.Core.Path.{_≡_, refl, _∙_, subst, sym}
 use mathlib.Core.Bool.{Bool, false, not}
