@@ -9,19 +9,21 @@ use lib.Dec.{leb}
 use lib.ListN.{length, length-map}
 use Rattle.residue.specs.declared.Outcome.{Outcome}
 use Rattle.residue.specs.declared.Outcome.the-variants.{Holds, Fails, Absent}
+use Rattle.tables.specs.Tables.{recordWith}
 use Rattle.automaton.specs.Machines.{Machine, meets, placeOf, visit, visitWays, nextsOf, recordOf, flat, recordsOf}
 use Rattle.automaton.specs.Lists.{each-nil, each-cons, each-head, each-tail, each-append, Each}
 use Rattle.automaton.specs.Lawful.{Lawful, Reached, start, further}
 use Rattle.automaton.specs.Visited.{visit-old, visit-final, visit-asking, Visits, old, final, asking, visits-exist, visits-visit}
 use Rattle.automaton.specs.Reaching.{reached-good, visit-good, visits-good}
-use Rattle.automaton.specs.Placing.{full, room, placeAll}
-use Rattle.automaton.specs.Placed.{memory, Fit, placed-visits}
+use Rattle.automaton.specs.Placing.{slotless, slotted, placeAll}
+use Rattle.automaton.specs.MetPlaced.{holding, Fit, placed-visits}
 
 pub record Carried (M N : Machine) (Good : M .State → Type 0) (enc : M .State → N .State) : Type 0 where
   pub asks-carried : (s : M .State) → Good s → N .asks (enc s) ≡ M .asks s
   pub step-carried : (o : Outcome) (s : M .State) → Good s → M .asks s ≡ true → N .step o (enc s) ≡ enc (M .step o s)
   pub question-carried : (s : M .State) → Good s → N .question (enc s) ≡ M .question s
-  pub sets-carried : (s : M .State) → Good s → N .sets (enc s) ≡ M .sets s
+  pub sure-carried : (s : M .State) → Good s → N .sure (enc s) ≡ M .sure s
+  pub out-carried : (s : M .State) → Good s → N .out (enc s) ≡ M .out s
 
 pub record SameCarried (M N : Machine) (Good : M .State → Type 0) (enc : M .State → N .State) : Type 0 where
   pub same-carried : (a b : M .State) → Good a → Good b → N .same (enc a) (enc b) ≡ M .same a b
@@ -107,28 +109,25 @@ module _ {M N : Machine} {Good : M .State → Type 0} {left : M .State → ℕ} 
           ∙ ways-carried f below (met ++ s ∷ []) s (each-append met (s ∷ []) good (each-cons g (each-nil Good))) g eq
           ∙ sym (ap (map enc) (visit-asking M f met s e eq))
 
-  nexts-carried : (met : List (M .State)) (s : M .State) → Each Good met → Good s → nextsOf N (map enc met) (enc s) ≡ nextsOf M met s
+  nexts-carried : (met : List (M .State)) (s : M .State) (o : Outcome) → Each Good met → Good s → nextsOf N (map enc met) (enc s) o ≡ nextsOf M met s o
   unfolding nextsOf
-  nexts-carried met s good g = rw (carried .asks-carried s g) (go (M .asks s) refl)
+  nexts-carried met s o good g = rw (carried .asks-carried s g) (go (M .asks s) refl)
     where
-      go : (b : Bool) → M .asks s ≡ b
-          → cond b (placeOf N (map enc met) (N .step Holds (enc s)) ∷ placeOf N (map enc met) (N .step Fails (enc s))
-          ∷ placeOf N (map enc met) (N .step Absent (enc s)) ∷ []) (0 ∷ 0 ∷ 0 ∷ [])
-          ≡ cond b (placeOf M met (M .step Holds s) ∷ placeOf M met (M .step Fails s) ∷ placeOf M met (M .step Absent s) ∷ []) (0 ∷ 0 ∷ 0 ∷ [])
+      go : (b : Bool) → M .asks s ≡ b → cond b (placeOf N (map enc met) (N .step o (enc s))) 0 ≡ cond b (placeOf M met (M .step o s)) 0
       go false q = refl
-      go true q =
-          rw (
-            carried .step-carried Holds s g q,
-            carried .step-carried Fails s g q,
-            carried .step-carried Absent s g q,
-            place-carried same met (M .step Holds s) good (law .good-step Holds s g q),
-            place-carried same met (M .step Fails s) good (law .good-step Fails s g q),
-            place-carried same met (M .step Absent s) good (law .good-step Absent s g q),
-          )
+      go true q = rw (carried .step-carried o s g q) (place-carried same met (M .step o s) good (law .good-step o s g q))
 
   pub record-carried : (met : List (M .State)) (s : M .State) → Each Good met → Good s → recordOf N (map enc met) (enc s) ≡ recordOf M met s
-  unfolding recordOf
-  record-carried met s good g = rw (carried .question-carried s g, carried .sets-carried s g, nexts-carried met s good g)
+  unfolding recordOf recordWith
+  record-carried met s good g =
+      rw (
+        carried .question-carried s g,
+        carried .sure-carried s g,
+        carried .out-carried s g,
+        nexts-carried met s Holds good g,
+        nexts-carried met s Fails good g,
+        nexts-carried met s Absent good g,
+      )
 
   pub each-record-carried : (met l : List (M .State)) → Each Good met → Each Good l → map (recordOf N (map enc met)) (map enc l) ≡ map (recordOf M met) l
   each-record-carried met [] good each = refl
@@ -168,14 +167,14 @@ module _ {M N : Machine} {Good : M .State → Type 0} {left : M .State → ℕ} 
   each-fit-carried (x ∷ l) good =
       let g = each-head good in
       each-cons
-      (record { itself = same .same-carried x x g g ∙ law .same-refl x g; four = ap length (carried .question-carried x g) ∙ law .question-long x g })
+      (record { itself = same .same-carried x x g g ∙ law .same-refl x g; long = ap length (carried .question-carried x g) ∙ law .question-long x g })
       (each-fit-carried l (each-tail good))
 
   -- The builder on encoded states.
   pub placed-carried : (slots f : ℕ) (s₀ : M .State) → Good s₀ → left s₀ < suc f
       → placeAll N slots f (enc s₀)
       ≡ cond (leb (length (visit M (suc f) [] s₀)) slots)
-      (room (memory (map enc (visit M (suc f) [] s₀)) (map (recordOf M (visit M (suc f) [] s₀)) (visit M (suc f) [] s₀)))) full
+      (slotted (holding (map enc (visit M (suc f) [] s₀)) (map (recordOf M (visit M (suc f) [] s₀)) (visit M (suc f) [] s₀)))) slotless
   placed-carried slots f s₀ g h =
       let v = visits-exist law f [] s₀ g h in
       let good = visits-good law (v .1) (each-nil Good) g in

@@ -6,5 +6,5 @@ pub mod Visited
 pub mod Places
 pub mod Reaching
 pub mod Records
-pub mod Placed
+pub mod MetPlaced
 pub mod Carrying

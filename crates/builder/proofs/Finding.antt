@@ -18,7 +18,7 @@ use Rattle.automaton.specs.Machines.{Machine, meets, placeOf}
 use Rattle.automaton.specs.Lists.{Begins, begins-refl, begins-append, begins-trans}
 use Rattle.automaton.specs.Places.{meets-append, place-begins}
 use Rattle.builder.specs.Memory.{slotAt, statesIn, foundIn}
-use Rattle.builder.specs.Placed.{length-states}
+use Rattle.builder.specs.WaysPlaced.{length-states}
 use Rattle.builder.specs.declared.Found.the-variants as F
 
 -- The part of the slots that a call is lent is the state there.

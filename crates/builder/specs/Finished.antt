@@ -9,13 +9,14 @@ use Rattle.lists.specs.Filters.{filtersOf}
 use Rattle.lists.specs.Refusals.{listed}
 use Rattle.lists.specs.Ranks.{rankSets}
 use Rattle.lists.specs.declared.Listed.the-variants.{Accepted}
+use Rattle.words.specs.Lent.{cleared}
 use Rattle.tables.specs.Tables.{recordWords, maxSlots, slotsOf}
 use Rattle.slots.specs.Words.{slotWords}
-use Rattle.builder.specs.Outcome.{cleared, accepted, Answered}
-use Rattle.builder.specs.Building.{Startable, Started, built-states, built-full, answered-short}
+use Rattle.builder.specs.Outcome.{accepted, Answered}
+use Rattle.builder.specs.Building.{Startable, Started, built-states, built-slotless, answered-short}
 use Rattle.builder.specs.Promises.{Grown}
-use Rattle.builder.specs.declared.Room.{Room}
-use Rattle.builder.specs.declared.Room.the-variants as R
+use Rattle.builder.specs.declared.Extent.{Extent}
+use Rattle.builder.specs.declared.Extent.the-variants as R
 use Rattle.builder.specs.declared.Built.the-variants as B
 
 pub slots-tabled : (t : List ℕ) → recordWords * slotsOf t ≤ length t
@@ -41,7 +42,7 @@ module _ (l : List ℕ) (n : ℕ) (ranks t s : List ℕ) (slots : ℕ) (accepts 
           scratched = asked;
         }
 
-    module _ (r : Room) (t' s' : List ℕ) (came : Started n slots ranks (filtersOf l) t s r t' s') where
+    module _ (r : Extent) (t' s' : List ℕ) (came : Started n slots ranks (filtersOf l) t s r t' s') where
       by-slots : Started n (slotsOf t) ranks (filtersOf l) t s r t' s'
       by-slots = subst (λ (m : ℕ). Started n m ranks (filtersOf l) t s r t' s') count came
 
@@ -53,15 +54,15 @@ module _ (l : List ℕ) (n : ℕ) (ranks t s : List ℕ) (slots : ℕ) (accepts 
           subst (λ (m : ℕ). Answered (accepted (filtersOf l) t s) (B.States u) t' (cleared (slotWords * m) s')) (sym count)
           (built-states n ranks (filtersOf l) t s t' s' u r e by-slots scratched (subst (λ (m : ℕ). recordWords * slotsOf t ≤ m) (sym long) (slots-tabled t)))
 
-      pub finished-full : r ≡ R.Full → Answered (accepted (filtersOf l) t s) (B.Refused 11 0) (cleared (recordWords * slots) t') (cleared (slotWords * slots) s')
-      finished-full e =
+      pub finished-slotless : r ≡ R.Slotless → Answered (accepted (filtersOf l) t s) (B.Refused 11 0) (cleared (recordWords * slots) t') (cleared (slotWords * slots) s')
+      finished-slotless e =
           subst (λ (m : ℕ). Answered (accepted (filtersOf l) t s) (B.Refused 11 0) (cleared (recordWords * m) t') (cleared (slotWords * m) s')) (sym count)
-          (built-full n ranks (filtersOf l) t s t' s' r e by-slots scratched)
+          (built-slotless n ranks (filtersOf l) t s t' s' r e by-slots scratched)
 
       -- The number of states fits a word.
       pub few-states : (u : ℕ) → r ≡ R.Used u → u ≤ maxSlots
       few-states u e =
-          let g : Grown 0 slots (R.Used u) = subst (λ (x : Room). Grown 0 slots x) e (came .grows) in
+          let g : Grown 0 slots (R.Used u) = subst (λ (x : Extent). Grown 0 slots x) e (came .grows) in
           let within = g .1 in
           let few = slots-few t in
           omega arith

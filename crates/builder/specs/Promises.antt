@@ -4,7 +4,7 @@
 --   Grown       the slots used grow, and stay within the slots there are
 --   AfterKept   the table's words after the last record stay
 --   Asking      the words of a state that asks
---   Placing     what placing ways or states leaves; Says is what the theory says of the states and records
+--   Leaves      what placing ways or states leaves; Says is what the theory says of the states and records
 --   StatePlaced, WayPlaced   what the state builder and the way builder leave: what the theory places with any number of questions that is enough
 --   Meeting     what meeting the state c leaves, by the answer
 use Prim.Native.Nat.{ℕ, _+_, _*_, _≤_, _<_}
@@ -20,10 +20,10 @@ use Rattle.slots.specs.Slots.{asksIn}
 use Rattle.machine.specs.Box.{slotsIn}
 use Rattle.machine.specs.Remaining.{GoodWords, testsLeft}
 use Rattle.automaton.specs.Machines.{meets, placeOf}
-use Rattle.automaton.specs.Placing.{Placed, stored, placeWay, placeState}
+use Rattle.automaton.specs.Placing.{Placement, stored, placeWay, placeState}
 use Rattle.builder.specs.Memory.{slotAt, memoryOf, statesIn, outOf}
-use Rattle.builder.specs.declared.Room.{Room}
-use Rattle.builder.specs.declared.Room.the-variants as R
+use Rattle.builder.specs.declared.Extent.{Extent}
+use Rattle.builder.specs.declared.Extent.the-variants as R
 use Rattle.builder.specs.declared.Met.{Met}
 use Rattle.builder.specs.declared.Met.the-variants as M
 
@@ -69,15 +69,15 @@ pub record Stored (n slots : ℕ) (ranks : List ℕ) (used : ℕ) (t s c t' s' :
   pub kept : take (slotWords * used) s' ≡ take (slotWords * used) s
   pub beyond : drop (slotWords * slots) s' ≡ drop (slotWords * slots) s
 
-abbrev pub Grown : ℕ → ℕ → Room → Type 0
-Grown used slots R.Full = Unit {0}
+abbrev pub Grown : ℕ → ℕ → Extent → Type 0
+Grown used slots R.Slotless = Unit {0}
 Grown used slots (R.Used u) = (used ≤ u) × (u ≤ slots)
 
-abbrev pub AfterKept : Room → List ℕ → List ℕ → Type 0
-AfterKept R.Full t t' = Unit {0}
+abbrev pub AfterKept : Extent → List ℕ → List ℕ → Type 0
+AfterKept R.Slotless t t' = Unit {0}
 AfterKept (R.Used u) t t' = drop (recordWords * u) t' ≡ drop (recordWords * u) t
 
-pub record Placing (n slots : ℕ) (ranks : List ℕ) (used : ℕ) (t s : List ℕ) (r : Room) (t' s' : List ℕ) (Says : Placed (slotsIn n ranks) → Type 0) : Type 0 where
+pub record Leaves (n slots : ℕ) (ranks : List ℕ) (used : ℕ) (t s : List ℕ) (r : Extent) (t' s' : List ℕ) (Says : Placement (slotsIn n ranks) → Type 0) : Type 0 where
   pub comes : Says (outOf n ranks r t' s')
   pub grows : Grown used slots r
   pub after : AfterKept r t t'
@@ -86,15 +86,15 @@ pub record Placing (n slots : ℕ) (ranks : List ℕ) (used : ℕ) (t s : List �
   pub beyond : drop (slotWords * slots) s' ≡ drop (slotWords * slots) s
 
 -- The theory is given a number of questions, the code none: any number will do that is no less than the tests that remain in the state of slot `at`.
-abbrev pub StatePlaced : (n slots : ℕ) (ranks : List ℕ) (at used : ℕ) (t s : List ℕ) → Room → List ℕ → List ℕ → Type 0
+abbrev pub StatePlaced : (n slots : ℕ) (ranks : List ℕ) (at used : ℕ) (t s : List ℕ) → Extent → List ℕ → List ℕ → Type 0
 StatePlaced n slots ranks at used t s r t' s' =
-    Placing n slots ranks used t s r t' s'
+    Leaves n slots ranks used t s r t' s'
     (λ p. (left : ℕ) → testsLeft n (slotAt n s at) ≤ left → p ≡ placeState (slotsIn n ranks) slots left at (slotAt n s at) (memoryOf n ranks used t s))
 
 -- The question that the way answers counts as one of them.
-abbrev pub WayPlaced : (n slots : ℕ) (ranks : List ℕ) (o : Outcome) (at used : ℕ) (t s : List ℕ) → Room → List ℕ → List ℕ → Type 0
+abbrev pub WayPlaced : (n slots : ℕ) (ranks : List ℕ) (o : Outcome) (at used : ℕ) (t s : List ℕ) → Extent → List ℕ → List ℕ → Type 0
 WayPlaced n slots ranks o at used t s r t' s' =
-    Placing n slots ranks used t s r t' s'
+    Leaves n slots ranks used t s r t' s'
     (λ p. (left : ℕ) → testsLeft n (slotAt n s at) ≤ left + 1
     → p ≡ placeWay (slotsIn n ranks) slots (placeState (slotsIn n ranks) slots left) o at (slotAt n s at) (memoryOf n ranks used t s))
 
@@ -108,5 +108,5 @@ Meeting n slots ranks used t s c M.New t' s' =
     (drop (recordWords * (used + 1)) t' ≡ drop (recordWords * (used + 1)) t) ×
     (take (slotWords * used) s' ≡ take (slotWords * used) s) ×
     (drop (slotWords * slots) s' ≡ drop (slotWords * slots) s)
-Meeting n slots ranks used t s c M.Full t' s' =
+Meeting n slots ranks used t s c M.Slotless t' s' =
     (meets (slotsIn n ranks) (statesIn n used s) c ≡ false) × (slots ≤ used) × (t' ≡ t) × (s' ≡ s)

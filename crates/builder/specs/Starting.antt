@@ -8,23 +8,23 @@ use lib.ListN.{getD}
 use borrow.Author.Tests.{lt-leb}
 use Rattle.lists.specs.Filters.{filtersOf}
 use Rattle.sets.specs.Sets.{tally}
+use Rattle.words.specs.laws.Lending.{later}
 use Rattle.tables.specs.Tables.{recordWords}
 use Rattle.slots.specs.Slots.{startWords}
 use Rattle.machine.specs.Box.{slotsIn}
 use Rattle.machine.specs.Carried.{whole, list-placed}
 use Rattle.machine.specs.Remaining.{GoodWords, testsLeft, words-start, left-start}
 use Rattle.automaton.specs.Machines.{Machine}
-use Rattle.automaton.specs.Placing.{Memory, Placed, full, stored, placeState, placeAll}
+use Rattle.automaton.specs.Placing.{Memory, Placement, slotless, stored, placeState, placeAll}
 use Rattle.builder.specs.Memory.{slotAt, statesIn, recordsAt, memoryOf, outOf}
-use Rattle.builder.specs.Placed.{later}
 use Rattle.builder.specs.Promises.{Stored, StatePlaced, Grown, AfterKept}
 use Rattle.builder.specs.Building.{Startable, Started}
-use Rattle.builder.specs.declared.Room.{Room}
-use Rattle.builder.specs.declared.Room.the-variants as R
+use Rattle.builder.specs.declared.Extent.{Extent}
+use Rattle.builder.specs.declared.Extent.the-variants as R
 
-all-full : (M : Machine) (slots f : ℕ) (s : M .State) → slots ≡ 0 → placeAll M slots f s ≡ full
+all-slotless : (M : Machine) (slots f : ℕ) (s : M .State) → slots ≡ 0 → placeAll M slots f s ≡ slotless
 unfolding placeAll
-all-full M slots f s e = rw (e, placeAll)
+all-slotless M slots f s e = rw (e, placeAll)
 
 all-started : (M : Machine) (slots f : ℕ) (s : M .State) → 0 < slots → placeAll M slots f s ≡ placeState M slots f 0 s (stored M s (record { met = []; records = [] }))
 unfolding placeAll
@@ -38,7 +38,7 @@ module _ (n slots : ℕ) (ranks l t s : List ℕ) (able : Startable n slots rank
   abbrev tests : ℕ
   tests = able .listing .0
 
-  abbrev theAll : Placed (slotsIn n ranks)
+  abbrev theAll : Placement (slotsIn n ranks)
   theAll = placeAll (slotsIn n ranks) slots tests begin
 
   all-is : theAll ≡ whole n ranks (filtersOf l) slots
@@ -46,9 +46,9 @@ module _ (n slots : ℕ) (ranks l t s : List ℕ) (able : Startable n slots rank
       subst (λ (x : List ℕ). placeAll (slotsIn n x) slots tests (startWords n x l) ≡ whole n x (filtersOf l) slots) (sym (able .ranked))
       (list-placed l n tests slots (able .listing .1))
 
-  pub started-none : slots ≡ 0 → Started n slots ranks (filtersOf l) t s R.Full t s
+  pub started-none : slots ≡ 0 → Started n slots ranks (filtersOf l) t s R.Slotless t s
   unfolding outOf
-  started-none e = record { comes = sym (all-full (slotsIn n ranks) slots tests begin e) ∙ all-is; grows = tt; after = tt; behind = refl; beyond = refl }
+  started-none e = record { comes = sym (all-slotless (slotsIn n ranks) slots tests begin e) ∙ all-is; grows = tt; after = tt; behind = refl; beyond = refl }
 
   module _ (some-slot : 0 < slots) (t₁ s₁ : List ℕ) (kept : Stored n slots ranks 0 t s begin t₁ s₁) where
     slot-is : slotAt n s₁ 0 ≡ begin
@@ -72,17 +72,17 @@ module _ (n slots : ℕ) (ranks l t s : List ℕ) (able : Startable n slots rank
         ∙ ap (λ (m : Memory (slotsIn n ranks)). placeState (slotsIn n ranks) slots tests 0 begin m) memory-is
         ∙ sym (all-started (slotsIn n ranks) slots tests begin some-slot)
 
-    grown : (r : Room) → Grown 1 slots r → Grown 0 slots r
-    grown R.Full g = tt
+    grown : (r : Extent) → Grown 1 slots r → Grown 0 slots r
+    grown R.Slotless g = tt
     grown (R.Used u) g = (omega arith, g .1)
 
-    after-all : (r : Room) (t' : List ℕ) → Grown 1 slots r → AfterKept r t₁ t' → AfterKept r t t'
-    after-all R.Full t' g e = tt
+    after-all : (r : Extent) (t' : List ℕ) → Grown 1 slots r → AfterKept r t₁ t' → AfterKept r t t'
+    after-all R.Slotless t' g e = tt
     after-all (R.Used u) t' g e =
         let more = g .0 in
         e ∙ later (recordWords * 1) (recordWords * u) t₁ t (omega arith) (kept .after)
 
-    pub started : (r : Room) (t' s' : List ℕ) → StatePlaced n slots ranks 0 1 t₁ s₁ r t' s' → Started n slots ranks (filtersOf l) t s r t' s'
+    pub started : (r : Extent) (t' s' : List ℕ) → StatePlaced n slots ranks 0 1 t₁ s₁ r t' s' → Started n slots ranks (filtersOf l) t s r t' s'
     started r t' s' p =
         record {
           comes = p .comes tests enough ∙ state-is ∙ all-is;

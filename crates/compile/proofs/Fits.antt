@@ -13,7 +13,7 @@ use Rattle.lists.specs.Refusals.{listed}
 use Rattle.lists.specs.declared.Listed.{Listed}
 use Rattle.lists.specs.declared.Listed.the-variants as L
 use Rattle.tables.specs.Tables.{recordWords, maxSlots, slotsOf}
-use Rattle.tables.specs.Laws.{slots-least}
+use Rattle.tables.specs.laws.Least.{slots-least}
 use Rattle.machine.specs.Box.{statesOf}
 use Rattle.builder.specs.Outcome.{Shown, shown, Left, scratchWords, refused, noRoom, placed, accepted, outcomeBy, outcome}
 use Rattle.text.specs.Text as T

@@ -22,7 +22,8 @@ boxOf fs =
       asks = λ s. asks (questionOf s);
       step = λ o s. step fs o s;
       question = λ s. questionWords (questionOf s);
-      sets = λ s. sureSet fs s ∷ outSet fs s ∷ [];
+      sure = λ s. sureSet fs s;
+      out = λ s. outSet fs s;
     }
 
 -- No path is longer than the list's tests.
@@ -43,5 +44,6 @@ slotsIn n ranks =
       asks = λ w. asksIn n w;
       step = λ o w. stepWords n ranks o w;
       question = λ w. questionIn n w;
-      sets = λ w. sureSetIn n ranks w ∷ outSetIn n w ∷ [];
+      sure = λ w. sureSetIn n ranks w;
+      out = λ w. outSetIn n w;
     }

@@ -1,12 +1,12 @@
 -- On the words of slots the machine of a list does what it does on states.
 --   slots-same, slots-carried   the words of a good state compare, ask, step and read as the state does
 --   whole           what placing a list's states in so many slots comes to
---   list-placed     so the builder, placing words, places the list's states with their records, or is full where they are more than the slots
+--   list-placed     so the builder, placing words, places the list's states with their records, or finds no slot where they are more than the slots
 use Prim.Native.Nat.{ℕ, _≤_}
 use native.Mathlib.Omega.{arith}
-use mathlib.Core.Path.{_≡_, sym, ap₂, _∙_, subst}
+use mathlib.Core.Path.{_≡_, sym, _∙_, subst}
 use mathlib.Core.Bool.{true, cond}
-use mathlib.Core.List.{List, [], _∷_, map}
+use mathlib.Core.List.{List, map}
 use lib.Dec.{leb}
 use lib.ListN.{length}
 use Rattle.lists.specs.Filters.{Filter, filtersOf, maxFilters, testsIn}
@@ -20,18 +20,18 @@ use Rattle.slots.specs.Words.{written}
 use Rattle.slots.specs.Slots.{startWords}
 use Rattle.slots.specs.Laws.{same-written, asks-written, next-written, question-written, sure-written, out-written, start-accepted}
 use Rattle.automaton.specs.Machines.{recordOf}
-use Rattle.automaton.specs.Placing.{Placed, full, room, placeAll}
-use Rattle.automaton.specs.Placed.{memory}
+use Rattle.automaton.specs.Placing.{Placement, slotless, slotted, placeAll}
+use Rattle.automaton.specs.MetPlaced.{holding}
 use Rattle.automaton.specs.Carrying.{Carried, SameCarried, placed-carried}
 use Rattle.machine.specs.Box.{boxOf, statesOf, slotsIn}
 use Rattle.machine.specs.Laws.{Good, good-start, box-lawful, enough}
 
--- What placing a list's states comes to in so many slots: their words and records, or full.
-abbrev pub whole : (n : ℕ) (ranks : List ℕ) → List Filter → ℕ → Placed (slotsIn n ranks)
+-- What placing a list's states comes to in so many slots: their words and records, or a state without one.
+abbrev pub whole : (n : ℕ) (ranks : List ℕ) → List Filter → ℕ → Placement (slotsIn n ranks)
 whole n ranks fs slots =
-    cond (leb (length (statesOf fs)) slots) (room (memory (map written (statesOf fs)) (map (recordOf (boxOf fs) (statesOf fs)) (statesOf fs)))) full
+    cond (leb (length (statesOf fs)) slots) (slotted (holding (map written (statesOf fs)) (map (recordOf (boxOf fs) (statesOf fs)) (statesOf fs)))) slotless
 
--- With k questions at most to follow one another, from the words w on, the builder of n filters places the list's states, or is full.
+-- With k questions at most to follow one another, from the words w on, the builder of n filters places the list's states, or finds no slot.
 abbrev pub PlacesStates : List Filter → ℕ → ℕ → ℕ → List ℕ → Type 0
 PlacesStates fs n slots k w = placeAll (slotsIn n (rankSets fs)) slots k w ≡ whole n (rankSets fs) fs slots
 
@@ -45,7 +45,8 @@ module _ (fs : List Filter) (few : length fs ≤ maxFilters) where
         asks-carried = λ s g. asks-written (length fs) s (g .each) (g .fits);
         step-carried = λ o s g e. next-written fs s (g .each) few (g .fits) o e;
         question-carried = λ s g. question-written (length fs) s (g .each) (g .fits);
-        sets-carried = λ s g. ap₂ (λ (x y : ℕ). x ∷ y ∷ []) (sure-written fs s (g .each) few (g .fits)) (out-written fs s (g .each) few (g .fits));
+        sure-carried = λ s g. sure-written fs s (g .each) few (g .fits);
+        out-carried = λ s g. out-written fs s (g .each) few (g .fits);
       }
 
   slots-placed : wellFilters fs ≡ true → (slots : ℕ) → PlacesStates fs (length fs) slots (testsIn fs) (written (start fs))

@@ -12,6 +12,7 @@ use Rattle.lists.specs.inner.Well.{wellFilters}
 use Rattle.lists.specs.Filters.{Filter}
 use Rattle.states.specs.States.{State, Question, nothing, ask, questionOf, start, step, remaining}
 use Rattle.states.specs.Laws.{wellState, well-start, well-step, length-start, length-step, start-remaining, next-falls, step-keeps, same-state-eq, same-state-refl}
+use Rattle.tables.specs.Tables.{askWords, recordWords}
 use Rattle.automaton.specs.Machines.{meets, placeOf}
 use Rattle.automaton.specs.Lawful.{Lawful, Reached, Distinct}
 use Rattle.automaton.specs.Reaching.{all-each-good, all-good, all-closed, all-start, all-reached, reached-all, all-distinct, all-place-state, all-place-start}
@@ -27,7 +28,7 @@ pub record Good (fs : List Filter) (s : State) : Type 0 where
   pub each : length s ≡ length fs
   pub fits : fitsSlot s ≡ true
 
-question-four : (a : Question) → length (questionWords a) ≡ 4
+pub question-four : (a : Question) → length (questionWords a) ≡ askWords
 unfolding questionWords itemWords
 question-four nothing = refl
 question-four (ask q) = refl
@@ -50,7 +51,6 @@ module _ (fs : List Filter) where
         good-step = λ o s g e. good-step o s g;
         falls = λ o s g e. next-falls fs o s (g .well) e;
         question-long = λ s g. question-four (questionOf s);
-        sets-long = λ s g. refl;
       }
 
 -- All states of a well-formed list.
@@ -96,10 +96,10 @@ module _ (fs : List Filter) (h : wellFilters fs ≡ true) where
   unfolding statesOf
   reached-states s r = reached-all (box-lawful fs) (levelsOf fs) (start fs) (good-start fs h) enough r
 
-  -- There is at least the start, and a record of nine words for each state.
+  -- There is at least the start, and a record for each state.
   pub states-some : 0 < length (statesOf fs)
   states-some = omega (arith, place-below (boxOf fs) (statesOf fs) (start fs) start-met)
 
-  pub records-size : length (recordsIn fs) ≡ 9 * length (statesOf fs)
+  pub records-size : length (recordsIn fs) ≡ recordWords * length (statesOf fs)
   unfolding recordsIn
   records-size = records-long (box-lawful fs) (statesOf fs) states-good

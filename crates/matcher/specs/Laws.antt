@@ -15,7 +15,7 @@ use lib.ListN.{length}
 use Rattle.fields.specs.Ethernet.{maxFrame}
 use Rattle.fields.specs.Fields.{field}
 use Rattle.tables.specs.Tables.{recordWords, maxSlots, slotsOf}
-use Rattle.tables.specs.Laws.{slots-least}
+use Rattle.tables.specs.laws.Least.{slots-least}
 use Rattle.matcher.specs.declared.Answer.{Answer}
 use Rattle.matcher.specs.declared.Answer.the-variants.{Done, Stopped, Refused}
 use Rattle.matcher.specs.Walk.{Shown, shown, refused, walk, walkFrom}

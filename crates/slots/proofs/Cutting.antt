@@ -20,7 +20,7 @@ use Rattle.lists.specs.Filters.{Item, testWords, maxTests, itemOf}
 use Rattle.lists.specs.Words.{itemWords}
 use Rattle.states.specs.States.{Standing, out, left, keep, join, cut, cutStanding}
 use Rattle.slots.specs.Words.{filterSlot, outMark, itemsWords, outWords, writtenFilter, readItems, readFilter}
-use Rattle.slots.specs.Steps.{over, cleared, item, leftOf, keptWords, keptAt, finished, Kept}
+use Rattle.slots.specs.Steps.{over, clearedFrom, item, leftOf, keptWords, keptAt, finished, Kept}
 
 pub put-four : (d : List ℕ) (at k f m v : ℕ) → at + testWords ≤ length d → set (set (set (set d at k) (at + 1) f) (at + 2) m) (at + 3) v ≡ over at (k ∷ f ∷ m ∷ v ∷ []) d
 put-four d at k f m v h = rw (add-one at, add-two at, add-three at) (sets-eq (k ∷ f ∷ m ∷ v ∷ []) d at h)
@@ -33,12 +33,12 @@ replicate-suc a b e = ap (λ (n : ℕ). replicate {A = ℕ} n 0) e
 pub zeros : (a b : ℕ) → a ≡ b → replicate {A = ℕ} a 0 ≡ replicate {A = ℕ} b 0
 zeros a b e = ap (λ (n : ℕ). replicate {A = ℕ} n 0) e
 
-pub cleared-step : (d : List ℕ) (i : ℕ) → i < length d → cleared (i + 1) (set d i 0) ≡ cleared i d
+pub cleared-step : (d : List ℕ) (i : ℕ) → i < length d → clearedFrom (i + 1) (set d i 0) ≡ clearedFrom i d
 cleared-step d i h =
     rw (length-set d i 0, add-one i, take-suc-set d i 0 h) (append-snoc (take i d) 0 (replicate (length d - suc i) 0) ∙
     ap (λ (r : List ℕ). take i d ++ r) (sym (replicate-suc (length d - i) (length d - suc i) (omega arith))))
 
-pub cleared-all : (d : List ℕ) (i : ℕ) → length d ≤ i → cleared i d ≡ d
+pub cleared-all : (d : List ℕ) (i : ℕ) → length d ≤ i → clearedFrom i d ≡ d
 cleared-all d i h =
     let z : length d - i ≡ 0 = omega arith in
     rw (take-all i d h, z) (append-nil d)
@@ -56,7 +56,7 @@ left-other n k t e = rw (ne-eqb (t .field) n e)
 
 -- ---- out
 
-pub out-words : (d : List ℕ) → length d ≡ filterSlot → cleared 1 (set d 0 outMark) ≡ outWords
+pub out-words : (d : List ℕ) → length d ≡ filterSlot → clearedFrom 1 (set d 0 outMark) ≡ outWords
 unfolding outWords
 out-words [] h = absurd (omega arith)
 out-words (x ∷ d) h = ap (λ (n : ℕ). outMark ∷ replicate {A = ℕ} (n - 1) 0) h
@@ -92,7 +92,7 @@ kept-step e f d True x h l = refl
 kept-step e f d False x h l = absurd (omega arith)
 kept-step e f d (Left u) x h l = finished-keep e d (item f u) x h
 
-pub kept-out : (e f : ℕ) (d : List ℕ) (r : Residue) (x : Standing) → e + testWords ≤ filterSlot → filterSlot < keptAt e r → cleared (keptAt e r) (keptWords e f r d) ≡ finished e d (join f r x)
+pub kept-out : (e f : ℕ) (d : List ℕ) (r : Residue) (x : Standing) → e + testWords ≤ filterSlot → filterSlot < keptAt e r → clearedFrom (keptAt e r) (keptWords e f r d) ≡ finished e d (join f r x)
 unfolding keptAt keptWords join finished outWords
 kept-out e f d True x h l = absurd (omega arith)
 kept-out e f d False x h l = refl
@@ -118,7 +118,7 @@ finished-start d out = refl
 finished-start d (left ts) =
     ap (λ (r : List ℕ). itemsWords ts ++ r) (zeros (filterSlot - 0 - testWords * length ts) (filterSlot - testWords * length ts) (omega arith))
 
-pub finished-end : (e : ℕ) (d : List ℕ) → length d ≡ filterSlot → cleared e d ≡ finished e d (left [])
+pub finished-end : (e : ℕ) (d : List ℕ) → length d ≡ filterSlot → clearedFrom e d ≡ finished e d (left [])
 unfolding finished itemsWords
 finished-end e d h = ap (λ (r : List ℕ). take e d ++ r) (zeros (length d - e) (filterSlot - e - testWords * 0) (omega arith))
 
@@ -161,9 +161,9 @@ module _
     joined : finished e d (join f r (rest n k src (j + 1))) ≡ W
     joined = ap (λ (x : Standing). finished e d x) (ap₂ (λ (g : ℕ) (q : Residue). join g q (rest n k src (j + 1))) named is ∙ sym (rest-more n k src j more test)) ∙ whole
 
-    pub turn-out : filterSlot < e' → cleared e' d' ≡ W
+    pub turn-out : filterSlot < e' → clearedFrom e' d' ≡ W
     turn-out h =
-        ap₂ cleared (kept .behind) (kept .words) ∙
+        ap₂ clearedFrom (kept .behind) (kept .words) ∙
         kept-out e f d r (rest n k src (j + 1)) (omega arith) (rw (kept .behind) at h) ∙ joined
 
     turn-long : length d' ≡ filterSlot

@@ -14,7 +14,7 @@ use Rattle.lists.specs.laws.Items.{length-items, items-turn, items-end}
 use Rattle.lists.specs.laws.Walking.{At, at-rest, at-end}
 use Rattle.states.specs.States.{left, allLeft}
 use Rattle.slots.specs.Words.{filterSlot, itemsWords, writtenFilter, written}
-use Rattle.slots.specs.Steps.{over, cleared, item}
+use Rattle.slots.specs.Steps.{over, clearedFrom, item}
 use Rattle.slots.proofs.Cutting.{take-over, zeros}
 use Rattle.slots.proofs.Parts.{turn}
 
@@ -39,7 +39,7 @@ pub put-end : (count j : ℕ) (ws p W : List ℕ) → count ≤ j → p ++ items
 unfolding itemsWords
 put-end count j ws p W h e = sym (append-nil p) ∙ ap (λ (its : List Item). p ++ itemsWords its) (sym (items-end ws count j h)) ∙ e
 
-pub fill-is : (count : ℕ) (ws d d' : List ℕ) → length d ≡ filterSlot → take (testWords * count) d ≡ itemsWords (itemsOf count ws) → d' ≡ cleared (testWords * count) d → d' ≡ writtenFilter (left (itemsOf count ws))
+pub fill-is : (count : ℕ) (ws d d' : List ℕ) → length d ≡ filterSlot → take (testWords * count) d ≡ itemsWords (itemsOf count ws) → d' ≡ clearedFrom (testWords * count) d → d' ≡ writtenFilter (left (itemsOf count ws))
 unfolding writtenFilter
 fill-is count ws d d' l e h =
     h ∙ ap₂ (λ (x y : List ℕ). x ++ y) e (zeros (length d - testWords * count) (filterSlot - testWords * length (itemsOf count ws)) (omega (arith, length-items count ws)))

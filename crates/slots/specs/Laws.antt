@@ -2,7 +2,7 @@
 --   questionWords a   the words of a question; zeros where nothing is asked
 -- Encoding: fitsSlot, fits-start, fits-step, fits-next, length-written, read-written, written-injective.
 -- Sets: held-written, out-written, sure-written. Steps: closed-written, cut-written, by-written, step-written, next-written, start-written, start-accepted.
--- Questions: question-written, asks-written, none-written. Records: fresh-written, fresh-nine, length-question. Sameness: same-words-eq, same-words-refl, same-written.
+-- Questions: question-written, asks-written, none-written, length-question. Sameness: same-words-eq, same-words-refl, same-written.
 use Prim.Native.Nat.{ℕ, zero, suc, _+_, _*_, _-_, _^_, _≤_, _<_}
 use mathlib.Core.Path.{_≡_, refl, sym, ap, ap₂, _∙_}
 use mathlib.Core.Bool.{Bool, true, false, cond, not, _&&_, false≢true}
@@ -36,7 +36,7 @@ use Rattle.states.specs.States.{Standing, out, left, State, standing, isHeld, i
 use Rattle.states.specs.Runs.{asks}
 use Rattle.states.specs.Same.{sameState, same-state-eq, same-state-refl}
 use Rattle.slots.specs.Words.{filterSlot, outMark, itemsWords, outWords, writtenFilter, written, readFilter}
-use Rattle.slots.specs.Slots.{headOf, heldSet, outSetIn, sureSetIn, closedIn, closedWords, hasTest, fourWords, questionIn, asksIn, cutWords, stepQuestion, stepWords, startWords, freshWords, sameWords}
+use Rattle.slots.specs.Slots.{headOf, heldSet, outSetIn, sureSetIn, closedIn, closedWords, hasTest, fourWords, questionIn, asksIn, cutWords, stepQuestion, stepWords, startWords, sameWords}
 pub use Rattle.slots.specs.Fitting.{fitsStanding, fitsSlot, fits-cut, fits-closed, fits-step, fits-next, fits-all, fits-start}
 pub use Rattle.slots.specs.Reading.{length-filter, length-written, take-filter, drop-filter, held-word, out-word, kind-mark, read-filter, read-written, written-injective}
 
@@ -164,7 +164,7 @@ module _ (m : ℕ) (s : State) (l : length s ≡ m) (fit : fitsSlot s ≡ true) 
   pub cut-written : (f : ℕ) (k : Fact) → cutWords m f k (written s) ≡ written (map (cutStanding f k) s)
   cut-written f k = ap (λ (x : ℕ). cutWords x f k (written s)) (sym l) ∙ cut-from f k s fit
 
--- ---- a step, the start, a record
+-- ---- a step, the start
 
 module _ (fs : List Filter) (s : State) (l : length s ≡ length fs) (few : length fs ≤ maxFilters) (fit : fitsSlot s ≡ true) where
   -- By any question.
@@ -190,13 +190,7 @@ module _ (fs : List Filter) (s : State) (l : length s ≡ length fs) (few : leng
   unfolding step
   next-written o h = next-at o (questionOf s) refl h
 
-  pub fresh-written : freshWords (length fs) (rankSets fs) (written s) ≡ questionWords (questionOf s) ++ (0 ∷ 0 ∷ 0 ∷ []) ++ (sureSet fs s ∷ outSet fs s ∷ [])
-  unfolding freshWords
-  fresh-written =
-      ap (λ (w : List ℕ). w ++ (0 ∷ 0 ∷ 0 ∷ []) ++ (sureSetIn (length fs) (rankSets fs) (written s) ∷ outSetIn (length fs) (written s) ∷ [])) (question-written (length fs) s l fit) ∙
-      ap₂ (λ (a b : ℕ). questionWords (questionOf s) ++ (0 ∷ 0 ∷ 0 ∷ []) ++ (a ∷ b ∷ [])) (sure-written fs s l few fit) (out-written fs s l few fit)
-
--- The nine words of a record, whatever the words of the slot are.
+-- A question has the words of a test, whatever the words of the slot are.
 four-of : (b : Bool) (x y : List ℕ) → length x ≡ 4 → length y ≡ 4 → length (cond b x y) ≡ 4
 four-of true x y h k = h
 four-of false x y h k = k
@@ -205,21 +199,6 @@ pub length-question : (m : ℕ) (w : List ℕ) → length (questionIn m w) ≡ t
 unfolding questionIn fourWords
 length-question zero w = refl
 length-question (suc m) w = four-of (hasTest w) (fourWords w) (questionIn m (drop filterSlot w)) refl (length-question m (drop filterSlot w))
-
-four-is : (q : List ℕ) → length q ≡ 4 → q ≡ getD q 0 0 ∷ getD q 1 0 ∷ getD q 2 0 ∷ getD q 3 0 ∷ []
-four-is [] h = absurd (omega arith)
-four-is (a ∷ []) h = absurd (omega arith)
-four-is (a ∷ b ∷ []) h = absurd (omega arith)
-four-is (a ∷ b ∷ c ∷ []) h = absurd (omega arith)
-four-is (a ∷ b ∷ c ∷ d ∷ []) h = refl
-four-is (a ∷ b ∷ c ∷ d ∷ e ∷ q) h = absurd (omega arith)
-
-pub fresh-nine : (m : ℕ) (ranks w : List ℕ) →
-    freshWords m ranks w ≡
-    getD (questionIn m w) 0 0 ∷ getD (questionIn m w) 1 0 ∷ getD (questionIn m w) 2 0 ∷ getD (questionIn m w) 3 0 ∷ 0 ∷ 0 ∷ 0 ∷ sureSetIn m ranks w ∷ outSetIn m w ∷ []
-unfolding freshWords
-fresh-nine m ranks w =
-    ap (λ (q : List ℕ). q ++ (0 ∷ 0 ∷ 0 ∷ []) ++ (sureSetIn m ranks w ∷ outSetIn m w ∷ [])) (four-is (questionIn m w) (length-question m w))
 
 pub start-written : (ws : List ℕ) → length (filtersOf ws) ≤ maxFilters → wellFilters (filtersOf ws) ≡ true → startWords (length (filtersOf ws)) (rankSets (filtersOf ws)) ws ≡ written (start (filtersOf ws))
 unfolding startWords start

@@ -73,10 +73,6 @@ stepWords n ranks o w = stepQuestion n ranks o (itemOf (questionIn n w)) w
 unfoldable pub startWords : ℕ → List ℕ → List ℕ → List ℕ
 startWords n ranks ws = closedWords n ranks (written (map allLeft (filtersOf ws)))
 
--- The record of a state, its next numbers still 0.
-unfoldable pub freshWords : ℕ → List ℕ → List ℕ → List ℕ
-freshWords n ranks w = questionIn n w ++ (0 ∷ 0 ∷ 0 ∷ []) ++ (sureSetIn n ranks w ∷ outSetIn n w ∷ [])
-
 unfoldable pub sameWords : List ℕ → List ℕ → Bool
 sameWords [] [] = true
 sameWords [] (b ∷ bs) = false

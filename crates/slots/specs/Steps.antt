@@ -1,6 +1,6 @@
 -- What the steps of the code leave, one word or one test at a time, and what they ask of their slices.
 --   over at ws d        d with the words ws from place at on
---   cleared e d         d up to place e, zeros behind
+--   clearedFrom e d     d up to place e, zeros behind
 --   pastEnd             a place beyond every filter's words: the filter is out
 --   leftOf n k t        what the fact k about field n leaves of the test t, whatever its field
 --   keptWords, keptAt   the words, and the place behind the last kept test, after one more test
@@ -30,8 +30,8 @@ use Rattle.slots.specs.Words.{filterSlot, itemsWords, outWords, writtenF
 abbrev pub over : ℕ → List ℕ → List ℕ → List ℕ
 over at ws d = take at d ++ ws ++ drop (at + length ws) d
 
-abbrev pub cleared : ℕ → List ℕ → List ℕ
-cleared e d = take e d ++ replicate (length d - e) 0
+abbrev pub clearedFrom : ℕ → List ℕ → List ℕ
+clearedFrom e d = take e d ++ replicate (length d - e) 0
 
 abbrev pub item : ℕ → Test → Item
 item f t = record { field = f; test = t }
@@ -71,7 +71,7 @@ pub record Two (src dst : List ℕ) : Type 0 where
 
 -- The tests are cut; behind place e nothing counts.
 pub record Cut (n : ℕ) (k : Fact) (src d' : List ℕ) (e : ℕ) : Type 0 where
-  pub words : cleared e d' ≡ writtenFilter (cut n k (readItems maxTests src))
+  pub words : clearedFrom e d' ≡ writtenFilter (cut n k (readItems maxTests src))
 
 unfoldable pub markedSet : ℕ → ℕ → List ℕ → ℕ
 markedSet n m w = setOf (tally n (λ i. eqb (headOf w i) m))
@@ -97,15 +97,6 @@ pub record Stepped (n : ℕ) (ranks src dst : List ℕ) : Type 0 where
   pub source : length src ≡ filterSlot * n
   pub target : length dst ≡ filterSlot * n
   pub ranked : n ≤ length ranks
-
-abbrev pub freshLength : ℕ
-freshLength = 9
-
-pub record Recorded (n : ℕ) (ranks w rec : List ℕ) : Type 0 where
-  pub few : n ≤ maxFilters
-  pub whole : length w ≡ filterSlot * n
-  pub ranked : n ≤ length ranks
-  pub room : freshLength ≤ length rec
 
 -- So many tests from a place of a list on, and one filter's words.
 pub record Tests (at count : ℕ) (list dst : List ℕ) : Type 0 where

@@ -7,7 +7,7 @@ ghost use Rattle.lists.specs.Filters.{testWords, itemOf, itemsOf};
 ghost use Rattle.lists.specs.Words.{itemWords};
 ghost use Rattle.states.specs.States.{cutStanding, left};
 ghost use Rattle.slots.specs.Words.{filterSlot, itemsWords, outWords, writtenFilter, readFilter};
-ghost use Rattle.slots.specs.Steps.{over, cleared, item, leftOf, Room, Kept, Two, Cut, Tests};
+ghost use Rattle.slots.specs.Steps.{over, clearedFrom, item, leftOf, Room, Kept, Two, Cut, Tests};
 use crate::FILTER_WORDS;
 use lists::MAX_TESTS;
 use lists::TEST_WORDS;
@@ -48,7 +48,7 @@ pub fn put_test(dst: &mut [u32], at: usize, field: u32, test: Test)
 
 // Zeros from a place on; nothing where the place lies beyond the words.
 pub fn clear_from(dst: &mut [u32], from: usize)
-    ensures { λ _. ⌜ now (dst .exit) ≡ cleared from (now (dst .entry)) ⌝ }
+    ensures { λ _. ⌜ now (dst .exit) ≡ clearedFrom from (now (dst .entry)) ⌝ }
 {
     let mut i = from;
     while i < dst.len() {

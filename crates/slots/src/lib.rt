@@ -2,14 +2,14 @@
 // n is the number of filters; the slices hold the words of exactly these.
 ghost use mathlib.Core.Path.{_≡_};
 ghost use mathlib.Core.Bool.{cond};
-ghost use mathlib.Core.List.{_∷_, [], _++_, map};
+ghost use mathlib.Core.List.{_∷_, [], map};
 ghost use Prim.Native.Nat.{_*_, _≤_};
-ghost use lib.ListN.{length, drop};
+ghost use lib.ListN.{length};
 ghost use Rattle.lists.specs.Filters.{filtersOf, itemOf};
 ghost use Rattle.states.specs.States.{allLeft};
 ghost use Rattle.slots.specs.Words.{filterSlot, outWords, written};
-ghost use Rattle.slots.specs.Slots.{heldSet, outSetIn, sureSetIn, closedIn, closedWords, questionIn, cutWords, stepQuestion, startWords, freshWords, sameWords};
-ghost use Rattle.slots.specs.Steps.{freshLength, markedSet, State, Ranked, Both, Stepped, Recorded, Starts};
+ghost use Rattle.slots.specs.Slots.{heldSet, outSetIn, sureSetIn, closedIn, closedWords, questionIn, cutWords, stepQuestion, startWords, sameWords};
+ghost use Rattle.slots.specs.Steps.{markedSet, State, Ranked, Both, Stepped, Starts};
 use filter::OUT;
 use lists::HEAD_WORDS;
 use lists::MAX_FILTERS;
@@ -172,23 +172,6 @@ pub fn step_by(
     let fact = residue::fact_of(fields::full_of(field), outcome, test);
     cut_all(src, dst, n, field, fact);
     close(dst, n, ranks);
-}
-
-// The first nine words of a record: the question, no next states yet, the sure set and the out set.
-pub fn write_record(w: &[u32], n: usize, ranks: &[Set], rec: &mut [u32])
-    requires { ⌜ Recorded n (now ranks) (now w) (now rec) ⌝ }
-    ensures { λ _. ⌜ now (rec .exit) ≡ freshWords n (now (ranks .entry)) (now (w .entry)) ++ drop freshLength (now (rec .entry)) ⌝ }
-{
-    let asked = question_of(w, n);
-    rec[0] = asked.kind;
-    rec[1] = asked.field;
-    rec[2] = asked.mask;
-    rec[3] = asked.value;
-    rec[4] = 0;
-    rec[5] = 0;
-    rec[6] = 0;
-    rec[7] = sure_set(w, n, ranks);
-    rec[8] = out_set(w, n);
 }
 
 // The same words; the first that differ decide.

@@ -1,4 +1,4 @@
--- `builder::words::copy_into` meets its contract: after i turns the first i words are the source's and the others as they were.
+-- `words::copy_into` meets its contract: after i turns the first i words are the source's and the others as they were.
 -- Assumes nothing.
 use Prim.Native.Nat.{ℕ, _≤_, _<_, _-_, _+_}
 use mathlib.Core.Path.{_≡_, _∙_, ap, sym}
@@ -9,8 +9,8 @@ use native.Mathlib.Nat.{zero-add}
 use native.Mathlib.Numerals.{add-one}
 use borrow.Author.Needs.{needs}
 use denote.Ref.{now}
-use Rattle.builder.proofs.words.copy_into.Statement.{statement}
-use Rattle.builder.proofs.words.copy_into.Tie as tie
+use Rattle.words.proofs.copy_into.Statement.{statement}
+use Rattle.words.proofs.copy_into.Tie as tie
 
 abbrev Inv-loop : tie.InvT-loop
 Inv-loop words₀ source i₀ words i = (i ≤ length source) × (words ≡ paste words₀ 0 source i) × (length words ≡ length words₀)

@@ -1,4 +1,4 @@
--- `builder::words::clear` meets its contract: after i turns the first i words are 0 and the others as they were.
+-- `words::clear` meets its contract: after i turns the first i words are 0 and the others as they were.
 -- Assumes nothing.
 use Prim.Native.Nat.{ℕ, _≤_, _<_, _-_}
 use mathlib.Core.Path.{_≡_, _∙_, ap}
@@ -7,9 +7,9 @@ use lib.ListN.{length, drop, replicate, set, length-set}
 use borrow.Author.Needs.{needs}
 use borrow.Author.Fill.{fill-none, fill-more}
 use denote.Ref.{now}
-use Rattle.builder.specs.Outcome.{cleared}
-use Rattle.builder.proofs.words.clear.Statement.{statement}
-use Rattle.builder.proofs.words.clear.Tie as tie
+use Rattle.words.specs.Lent.{cleared}
+use Rattle.words.proofs.clear.Statement.{statement}
+use Rattle.words.proofs.clear.Tie as tie
 
 abbrev Inv-loop : tie.InvT-loop
 Inv-loop words₀ n i₀ words i = (i ≤ n) × (words ≡ replicate i 0 ++ drop i words₀) × (length words ≡ length words₀)

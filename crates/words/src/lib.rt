@@ -3,7 +3,7 @@ ghost use mathlib.Core.Path.{_≡_};
 ghost use mathlib.Core.List.{_++_};
 ghost use Prim.Native.Nat.{_≤_};
 ghost use lib.ListN.{length, drop};
-ghost use Rattle.builder.specs.Outcome.{cleared};
+ghost use Rattle.words.specs.Lent.{cleared};
 
 // Makes the first n words 0.
 pub fn clear(words: &mut [u32], n: usize)
