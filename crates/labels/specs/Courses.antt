@@ -6,8 +6,8 @@ use native.Mathlib.Nat.{add-zero, zero-add, suc-add, le-refl}
 use mathlib.Core.Path.{_≡_, refl, sym, ap, _∙_, subst}
 use mathlib.Core.Logic.{_⊎_, inl, inr, ⊎-elim}
 use mathlib.Core.Bool.{Bool, true, false, cond}
-use mathlib.Core.List.{List}
-use lib.Dec.{ltb, eqb, lit<}
+use mathlib.Core.List.{List, [], _∷_}
+use lib.Dec.{ltb, eqb}
 use lib.ListN.{getD}
 use borrow.Author.Tests.{ltb-true, lt-ltb, lt-leb}
 use Rattle.residue.specs.Tests.{holds}
@@ -24,12 +24,16 @@ use Rattle.states.specs.Runs.{wayOf}
 use Rattle.states.specs.Choices.{Leads, leads-none, leads-more, Chosen, OfFrame}
 use Rattle.states.specs.Well.{item-field}
 use Rattle.states.specs.Laws.{path-of, path-free, wellState, well-left, well-step, well-leads, by-question, left-asks}
-use Rattle.tables.specs.Tables.{wordOf, kindAt, fieldAt, holdsAt, failsAt}
+use Rattle.tables.specs.Tables.{wordOf, questionAt, nextAt, wayAt, kindAt, fieldAt, holdsAt, failsAt}
 use Rattle.matcher.specs.Walk.{damaged, nextBy, nextOf, walkFrom}
-use Rattle.labels.specs.Labels.{questionAt, wayAt, FinalRecord, AskingRecord, LabelledBy, endedBy, shownAt}
+use Rattle.labels.specs.Labels.{FinalRecord, AskingRecord, LabelledBy, endedBy, shownAt}
 use Rattle.labels.specs.Walks.{walk-ends, walk-stops, walk-goes}
 
 -- ---- the words of a question
+
+final-kind : (t : List ℕ) (n : ℕ) → questionAt t n ≡ 0 ∷ 0 ∷ 0 ∷ 0 ∷ [] → wordOf t n kindAt ≡ 0
+unfolding questionAt
+final-kind t n zeros = ap (λ (w : List ℕ). getD w 0 0) zeros
 
 module _ (t : List ℕ) (n : ℕ) (q : Item) (words : questionAt t n ≡ itemWords q) where
   kind-at : wordOf t n kindAt ≡ kindOf (q .test)
@@ -51,7 +55,7 @@ module _ (t : List ℕ) (n : ℕ) (q : Item) (words : questionAt t n ≡ itemWor
   undamaged inside = rw (kind-at, field-at, kind-known (q .test), kind-some (q .test), lt-leb fieldCount (q .field) inside)
 
   next-by : (x : Reading) → nextBy t n x ≡ wayAt t n (outcomeOf (q .test) x)
-  unfolding nextBy wayAt outcomeOf questionAt itemOf
+  unfolding nextBy wayAt nextAt outcomeOf questionAt itemOf
   next-by R.Absent = refl
   next-by (R.Value x) =
       ap (λ (u : Item). cond (holds (u .test) x) (wordOf t n holdsAt) (wordOf t n failsAt)) item-at ∙ go (holds (q .test) x)
@@ -88,7 +92,7 @@ module _ {May : Item → State → Type 0} {fs : List Filter} {t : List ℕ} {m 
     unfolding shownAt endedBy
     stopped-shows k n l h =
         ⊎-elim
-        (λ (f : FinalRecord t n (x .give n)). walk-ends t m r k n 0 (f .zeros kindAt (lit< tt)) ∙ rw (x .sures n l, x .outs n l, f .none))
+        (λ (f : FinalRecord t n (x .give n)). walk-ends t m r k n 0 (final-kind t n (f .zeros)) ∙ rw (x .sures n l, x .outs n l, f .none))
         (λ (y : AskingRecord May fs t m (x .give) n).
         let q = y .question in
         by-question (walkFrom t m r 0 k n ≡ endedBy (questionOf (x .give n)) (sureSet fs (x .give n)) (outSet fs (x .give n)) k) (x .give n)
@@ -103,7 +107,7 @@ module _ {May : Item → State → Type 0} {fs : List Filter} {t : List ℕ} {m 
     walk-course (suc a) n l h =
         ⊎-elim
         (λ (f : FinalRecord t n (x .give n)).
-        let z = f .zeros kindAt (lit< tt) in
+        let z = final-kind t n (f .zeros) in
         record {
           end = n;
           count = 0;

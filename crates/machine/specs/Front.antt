@@ -7,7 +7,7 @@ use mathlib.Core.Bool.{true}
 use mathlib.Core.List.{List, [], _++_}
 use lib.ListN.{length, getD}
 use Rattle.residue.specs.declared.Outcome.{Outcome}
-use Rattle.lists.specs.Accepted.{wellFilters}
+use Rattle.lists.specs.inner.Well.{wellFilters}
 use Rattle.lists.specs.Filters.{Filter}
 use Rattle.states.specs.States.{State, questionOf, step, sureSet, outSet}
 use Rattle.states.specs.Runs.{asks}
