@@ -12,7 +12,14 @@ from pathlib import Path
 ROOT = Path(__file__).resolve().parent.parent
 # Files whose laws others read: what is promised, not only what serves a proof.
 DEMANDS = "crates/demands/specs/Demands.antt"
-STATEMENTS = (DEMANDS, "crates/demands/specs/Tight.antt", "crates/demands/specs/Cases.antt")
+STATEMENTS = (
+    DEMANDS,
+    "crates/demands/specs/Tight.antt",
+    "crates/demands/specs/Cases.antt",
+    "crates/machine/specs/Cases.antt",
+    "crates/builder/specs/Tight.antt",
+    "crates/filterbox/specs/Tight.antt",
+)
 TOOLCHAIN = ("Prim", "mathlib", "native", "lib", "borrow", "mir", "denote")
 NAME = r'[^\s(){}.;,@"«»]+'
 USE = re.compile(r"^((?:unfoldable |pub |ghost )*)use ([^\s{;]+?)(?:(?:\.|::)\{([^}]*)\}| as ([^\s;]+))?;?$", re.M)

@@ -11,14 +11,14 @@ use lib.Seq.{take-at, length-take-le}
 use Rattle.residue.specs.declared.Outcome.{Outcome}
 use Rattle.lists.specs.Filters.{itemOf}
 use Rattle.slots.specs.Words.{filterSlot, slotWords}
-use Rattle.slots.specs.Slots.{questionIn, stepQuestion, stepWords}
-use Rattle.slots.specs.Steps.{Stepped}
+use Rattle.slots.specs.inner.Slots.{questionIn, stepQuestion, stepWords}
+use Rattle.slots.specs.inner.Steps.{Stepped}
 use Rattle.machine.specs.Box.{slotsIn}
 use Rattle.automaton.specs.Machines.{meets, placeOf}
-use Rattle.automaton.specs.Places.{place-below}
-use Rattle.builder.specs.Memory.{slotAt, statesIn, foundIn}
-use Rattle.builder.specs.WaysPlaced.{length-states}
-use Rattle.builder.specs.Promises.{Ready, Search, Store, Stored, Meeting}
+use Rattle.automaton.specs.laws.Places.{place-below}
+use Rattle.builder.specs.inner.Memory.{slotAt, statesIn, foundIn}
+use Rattle.builder.specs.laws.WaysPlaced.{length-states}
+use Rattle.builder.specs.inner.Promises.{Ready, Search, Store, Stored, Meeting}
 use Rattle.builder.specs.declared.Found.{Found}
 use Rattle.builder.specs.declared.Found.the-variants as F
 use Rattle.builder.specs.declared.Met.the-variants as M

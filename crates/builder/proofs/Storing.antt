@@ -10,13 +10,13 @@ use Rattle.words.specs.laws.Lending.{later, put-before, put-there, put-behind}
 use Rattle.tables.specs.Tables.{recordWords, freshRecord, recordAt}
 use Rattle.tables.specs.laws.Layout.{record-long}
 use Rattle.slots.specs.Words.{filterSlot, slotWords}
-use Rattle.slots.specs.Slots.{questionIn, sureSetIn, outSetIn}
+use Rattle.slots.specs.inner.Slots.{questionIn, sureSetIn, outSetIn}
 use Rattle.slots.specs.Laws.{length-question}
 use Rattle.machine.specs.Box.{slotsIn}
-use Rattle.automaton.specs.Placing.{freshOf, stored}
-use Rattle.builder.specs.Memory.{slotAt, statesIn, recordsAt, memoryOf}
-use Rattle.builder.specs.MemoryLaws.{states-more, records-more}
-use Rattle.builder.specs.Promises.{Store, Stored}
+use Rattle.automaton.specs.inner.Placing.{freshOf, stored}
+use Rattle.builder.specs.inner.Memory.{slotAt, statesIn, recordsAt, memoryOf}
+use Rattle.builder.specs.laws.Memory.{states-more, records-more}
+use Rattle.builder.specs.inner.Promises.{Store, Stored}
 
 -- The record that is written is the candidate's.
 pub fresh-is : (n : ℕ) (ranks c : List ℕ) (kind field mask value sure out : ℕ)

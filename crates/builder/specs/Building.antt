@@ -19,14 +19,14 @@ use Rattle.words.specs.Lent.{cleared}
 use Rattle.tables.specs.Tables.{recordWords, maxSlots, slotsOf, recordAt}
 use Rattle.slots.specs.Words.{slotWords, written}
 use Rattle.automaton.specs.Machines.{Machine, recordOf, recordsOf, flat}
-use Rattle.automaton.specs.Placing.{Memory, Placement, slotless, slotted}
-use Rattle.automaton.specs.MetPlaced.{holding}
+use Rattle.automaton.specs.inner.Placing.{Memory, Placement, slotless, slotted}
+use Rattle.automaton.specs.laws.MetPlaced.{holding}
 use Rattle.machine.specs.Box.{boxOf, slotsIn, statesOf, recordsIn}
-use Rattle.machine.specs.Carried.{whole}
+use Rattle.machine.specs.laws.Carried.{whole}
 use Rattle.builder.specs.Outcome.{Left, tableWords, scratchWords, refused, noRoom, placed, accepted, outcomeBy, outcome, Answered}
-use Rattle.builder.specs.Memory.{recordsAt, memoryOf, outOf}
-use Rattle.builder.specs.WaysPlaced.{length-states}
-use Rattle.builder.specs.Promises.{Grown, AfterKept}
+use Rattle.builder.specs.inner.Memory.{recordsAt, memoryOf, outOf}
+use Rattle.builder.specs.laws.WaysPlaced.{length-states}
+use Rattle.builder.specs.inner.Promises.{Grown, AfterKept}
 use Rattle.builder.specs.declared.Extent.{Extent}
 use Rattle.builder.specs.declared.Extent.the-variants as R
 use Rattle.builder.specs.declared.Built.{Built}

@@ -10,10 +10,10 @@ ghost use mathlib.Core.List.{List};
 ghost use Prim.Native.Nat.{ℕ, _*_, _≤_};
 ghost use lib.ListN.{length};
 ghost use Rattle.slots.specs.Words.{filterSlot};
-ghost use Rattle.slots.specs.Slots.{stepWords, asksIn};
-ghost use Rattle.slots.specs.Steps.{Stepped};
-ghost use Rattle.builder.specs.Memory.{slotAt, statesIn, foundIn};
-ghost use Rattle.builder.specs.Promises.{Ready, Held, Search, Store, Stored, Meeting};
+ghost use Rattle.slots.specs.inner.Slots.{stepWords, asksIn};
+ghost use Rattle.slots.specs.inner.Steps.{Stepped};
+ghost use Rattle.builder.specs.inner.Memory.{slotAt, statesIn, foundIn};
+ghost use Rattle.builder.specs.inner.Promises.{Ready, Held, Search, Store, Stored, Meeting};
 
 // Where the candidate stands among the states of the slots used, if it does.
 fn find(scratch: &[u32], n: usize, used: usize, candidate: &[u32]) -> Found

@@ -7,9 +7,9 @@ use residue::Outcome;
 ghost use Prim.Native.Nat.{_*_, _≤_};
 ghost use lib.ListN.{length};
 ghost use Rattle.slots.specs.Words.{filterSlot};
-ghost use Rattle.machine.specs.Remaining.{GoodWords};
-ghost use Rattle.builder.specs.Memory.{slotAt};
-ghost use Rattle.builder.specs.Promises.{Ready, Asking, StatePlaced, WayPlaced};
+ghost use Rattle.machine.specs.inner.Remaining.{GoodWords};
+ghost use Rattle.builder.specs.inner.Memory.{slotAt};
+ghost use Rattle.builder.specs.inner.Promises.{Ready, Asking, StatePlaced, WayPlaced};
 
 // Builds the way of an outcome from the state in slot `at`, which has a question: its state, and that state's ways if it is new. Fewer tests remain in the new state, so this ends. The words are room for `meet`.
 fn place_way(

@@ -7,7 +7,7 @@ use native.Mathlib.Omega.{arith}
 use lib.Dec.{ltb}
 use lib.ListN.{length}
 use borrow.Author.Tests.{ltb-false, le-ltb}
-use Rattle.residue.specs.Choice.{by-cond, neither}
+use Rattle.residue.specs.laws.Choice.{by-cond, neither}
 use Rattle.lists.specs.Filters.{filtersOf}
 use Rattle.lists.specs.Refusals.{listed}
 use Rattle.lists.specs.declared.Listed.{Listed}

@@ -22,9 +22,9 @@ use Rattle.builder.specs.Outcome as O
 use Rattle.matcher.specs.declared.Answer.{Answer}
 use Rattle.matcher.specs.declared.Answer.the-variants as A
 use Rattle.matcher.specs.Walk as W
-use Rattle.labels.specs.Labels.{shownAt}
-use Rattle.demands.specs.Builds.{build-success}
-use Rattle.demands.specs.Settled.{Legal, walked, exact, all-done, all-matches, open-so, sure-so, out-so, sure-kept, out-kept, none-left, asked-few}
+use Rattle.labels.specs.Labels.{shownAt, Legal}
+use Rattle.demands.specs.laws.Builds.{build-success}
+use Rattle.demands.specs.Settled.{walked, exact, all-done, all-matches, open-so, sure-so, out-so, sure-kept, out-kept, none-left, asked-few}
 
 -- The words that building leaves: classifying changes none.
 pub record Rooms (b : O.Left) (t s : List ℕ) : Type 0 where

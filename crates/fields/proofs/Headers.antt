@@ -7,7 +7,7 @@ use mathlib.Core.Bool.{true, false, true≢false}
 use mathlib.Core.List.{List, [], _∷_, _++_}
 use borrow.Author.Tests.{le-leb}
 use lib.ListN.{length}
-use Rattle.residue.specs.Choice.{by-cond, never}
+use Rattle.residue.specs.laws.Choice.{by-cond, never}
 use Rattle.residue.specs.declared.Reading.{Reading}
 use Rattle.residue.specs.declared.Reading.the-variants.{Absent, Value}
 use Rattle.fields.specs.declared.ipv4.Packet.{Packet}

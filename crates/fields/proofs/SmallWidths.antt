@@ -9,7 +9,7 @@ use lib.Dec.{leb, lit<}
 use lib.ListN.{getD}
 use lib.Pow.{pow-mono, ones-lt, shl-exact}
 use borrow.Author.Tests.{leb-true}
-use Rattle.residue.specs.Choice.{first, second}
+use Rattle.residue.specs.laws.Choice.{first, second}
 use Rattle.fields.specs.Widths.{widths, width, full}
 
 -- A test that passes at each entry of a table, and at what stands behind it, passes at every place.

@@ -15,9 +15,9 @@ use lib.Dec.{ltb}
 use lib.ListN.{length, getD, take, drop, set, length-drop, length-set, drop-of-length-le, List·getD-map}
 use lib.Seq.{getD-drop, getD-take, drop-drop, take-suc-set, append-snoc}
 use borrow.Author.Tests.{ltb-true, ltb-false}
-use Rattle.residue.specs.Choice.{first, second}
+use Rattle.residue.specs.laws.Choice.{first, second}
 use Rattle.sets.specs.Sets.{setOf, tally}
-use Rattle.sets.specs.Laws.{tally-ext, tally-more}
+use Rattle.sets.specs.laws.Members.{tally-ext, tally-more}
 use Rattle.lists.specs.Filters.{Filter, maxFilters, filterWords, filterOf, filtersFrom, filtersOf}
 use Rattle.lists.specs.laws.Walking.{filters-step, filters-none}
 use Rattle.lists.specs.Ranks.{noFilter, above, rankSet, rankSets}

@@ -1,6 +1,4 @@
 pub mod Box
-pub mod Laws
-pub mod Carried
-pub mod Remaining
-pub mod Front
 pub mod Cases
+pub mod laws
+pub mod inner

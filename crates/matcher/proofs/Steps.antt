@@ -20,7 +20,7 @@ use Rattle.fields.specs.Widths.{fieldCount}
 use Rattle.lists.specs.Filters.{kindAtLeast, testOf}
 use Rattle.tables.specs.Tables.{recordWords, wordOf, kindAt, fieldAt}
 use Rattle.matcher.specs.Walk.{Shown, refused, damaged, nextBy, nextOf, arrive, onward, walkFrom}
-use Rattle.matcher.specs.Records.{wordIn, lastField, endsAt, endAt}
+use Rattle.matcher.specs.inner.Records.{wordIn, lastField, endsAt, endAt}
 
 abbrev pub window : List ℕ → ℕ → List ℕ
 window t n = take (recordWords * n + recordWords - recordWords * n) (drop (recordWords * n) t)

@@ -10,13 +10,13 @@ use lib.Bits.{bitAnd}
 use lib.Dec.{eqb}
 use lib.ListN.{getD}
 use Rattle.residue.specs.Residues.{outside}
-use Rattle.residue.specs.Bits.{and-not}
+use Rattle.residue.specs.laws.Bits.{and-not}
 use Rattle.sets.specs.Sets.{bit, setOf, tally}
 use Rattle.sets.specs.inner.Width.{setBits}
-use Rattle.sets.specs.Laws.{tally-put, tally-bound}
+use Rattle.sets.specs.laws.Members.{tally-put, tally-bound}
 use Rattle.slots.specs.Words.{filterSlot}
-use Rattle.slots.specs.Slots.{headOf}
-use Rattle.slots.specs.Steps.{markedSet}
+use Rattle.slots.specs.inner.Slots.{headOf}
+use Rattle.slots.specs.inner.Steps.{markedSet}
 
 pub put-more : (p : ℕ → Bool) (i s r : ℕ) → s ≡ setOf (tally i p) → r ≡ bit (p i) * 2 ^ i + s → r ≡ setOf (tally (i + 1) p)
 put-more p i s r e h = h ∙ ap (λ (x : ℕ). bit (p i) * 2 ^ i + x) e ∙ sym (tally-put i p)

@@ -8,9 +8,9 @@ use Rattle.residue.specs.declared.Test.{Test}
 use Rattle.residue.specs.declared.Fact.{Fact}
 use Rattle.residue.specs.declared.Outcome.{Outcome}
 use Rattle.fields.specs.Widths.{full}
-use Rattle.sets.specs.Laws.{tally-bound}
+use Rattle.sets.specs.laws.Members.{tally-bound}
 use Rattle.lists.specs.Filters.{maxFilters, testOf, itemOf}
-use Rattle.slots.specs.Slots.{outSetIn, closedWords, questionIn, cutWords, stepQuestion}
+use Rattle.slots.specs.inner.Slots.{outSetIn, closedWords, cutWords, stepQuestion}
 
 pub step-is : (n : ℕ) (ranks : List ℕ) (o : Outcome) (w : List ℕ) (k f m v g : ℕ) (t : Test) (c : Fact) (cut done : List ℕ)
     → t ≡ testOf k m v → g ≡ full f → c ≡ factOf g o t → cut ≡ cutWords n f c w → done ≡ closedWords n ranks cut

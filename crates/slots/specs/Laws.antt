@@ -14,15 +14,15 @@ use lib.Dec.{eqb}
 use lib.ListN.{length, getD, drop, length-map, List·getD-append}
 use lib.Seq.{getD-append-add}
 use borrow.Author.Tests.{eqb-true, eq-eqb}
-use Rattle.residue.specs.Bits.{and-not}
-use Rattle.residue.specs.Choice.{both, first, second, same-bool}
+use Rattle.residue.specs.laws.Bits.{and-not}
+use Rattle.residue.specs.laws.Choice.{both, first, second, same-bool}
 use Rattle.residue.specs.Facts.{factOf}
 use Rattle.residue.specs.Residues.{outside}
 use Rattle.residue.specs.declared.Fact.{Fact}
 use Rattle.residue.specs.declared.Outcome.{Outcome}
 use Rattle.fields.specs.Widths.{full}
 use Rattle.sets.specs.Sets.{setOf, tally, some}
-use Rattle.sets.specs.Laws.{tally-ext, tally-bound, minus-tally, zero-tally}
+use Rattle.sets.specs.laws.Members.{tally-ext, tally-bound, minus-tally, zero-tally}
 use Rattle.lists.specs.Filters.{Item, Filter, maxFilters, testWords, itemOf, filtersOf}
 use Rattle.lists.specs.Ranks.{above, rankSets}
 use Rattle.lists.specs.Words.{itemWords}
@@ -36,9 +36,9 @@ use Rattle.states.specs.States.{Standing, out, left, State, standing, isHeld, i
 use Rattle.states.specs.Runs.{asks}
 use Rattle.states.specs.Same.{sameState, same-state-eq, same-state-refl}
 use Rattle.slots.specs.Words.{filterSlot, outMark, itemsWords, outWords, writtenFilter, written, readFilter}
-use Rattle.slots.specs.Slots.{headOf, heldSet, outSetIn, sureSetIn, closedIn, closedWords, hasTest, fourWords, questionIn, asksIn, cutWords, stepQuestion, stepWords, startWords, sameWords}
-pub use Rattle.slots.specs.Fitting.{fitsStanding, fitsSlot, fits-cut, fits-closed, fits-step, fits-next, fits-all, fits-start}
-pub use Rattle.slots.specs.Reading.{length-filter, length-written, take-filter, drop-filter, held-word, out-word, kind-mark, read-filter, read-written, written-injective}
+use Rattle.slots.specs.inner.Slots.{headOf, heldSet, outSetIn, sureSetIn, closedIn, closedWords, hasTest, fourWords, questionIn, asksIn, cutWords, stepQuestion, stepWords, startWords, sameWords}
+use Rattle.slots.specs.laws.Fitting.{fitsStanding, fitsSlot, fits-cut, fits-all}
+use Rattle.slots.specs.laws.Reading.{length-filter, take-filter, drop-filter, held-word, out-word, kind-mark, read-filter, written-injective}
 
 -- ---- sets
 
@@ -152,10 +152,6 @@ module _ (m : ℕ) (s : State) (l : length s ≡ m) (fit : fitsSlot s ≡ true) 
   pub ask-written : (q : Item) → questionOf s ≡ ask q → questionIn m (written s) ≡ itemWords q
   unfolding questionWords
   ask-written q e = question-written ∙ ap questionWords e
-
-  pub none-written : questionOf s ≡ nothing → questionIn m (written s) ≡ 0 ∷ 0 ∷ 0 ∷ 0 ∷ []
-  unfolding questionWords
-  none-written e = question-written ∙ ap questionWords e
 
   pub asks-written : asksIn m (written s) ≡ asks (questionOf s)
   unfolding asksIn

@@ -7,7 +7,7 @@ ghost use Rattle.lists.specs.Filters.{testWords, itemOf, itemsOf};
 ghost use Rattle.lists.specs.Words.{itemWords};
 ghost use Rattle.states.specs.States.{cutStanding, left};
 ghost use Rattle.slots.specs.Words.{filterSlot, itemsWords, outWords, writtenFilter, readFilter};
-ghost use Rattle.slots.specs.Steps.{over, clearedFrom, item, leftOf, Room, Kept, Two, Cut, Tests};
+ghost use Rattle.slots.specs.inner.Steps.{over, clearedFrom, item, leftOf, Room, Kept, Two, Cut, Tests};
 use crate::FILTER_WORDS;
 use lists::MAX_TESTS;
 use lists::TEST_WORDS;

@@ -11,7 +11,7 @@ use Rattle.lists.specs.laws.Ranking.{length-rankSets}
 use Rattle.words.specs.Lent.{cleared}
 use Rattle.tables.specs.Tables.{recordWords, slotsOf}
 use Rattle.builder.specs.Outcome.{Answered, accepted}
-use Rattle.builder.specs.Finished as F
+use Rattle.builder.specs.laws.Finished as F
 use Rattle.builder.specs.declared.Built.the-variants as B
 use borrow.Author.Needs.{needs}
 use Rattle.builder.proofs.build_accepted.Statement.{statement}

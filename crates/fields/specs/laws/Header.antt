@@ -12,7 +12,7 @@ use borrow.Author.Tests.{ltb-true, ltb-false, eqb-true, eqb-false}
 use Rattle.residue.specs.declared.Reading.{Reading}
 use Rattle.residue.specs.declared.Reading.the-variants.{Absent, Value}
 use Rattle.sets.specs.Sets.{member}
-use Rattle.sets.specs.Laws.{member-empty, member-or, member-one}
+use Rattle.sets.specs.laws.Members.{member-empty, member-or, member-one}
 use Rattle.fields.specs.Widths.{fieldCount}
 use Rattle.fields.specs.Puts.{Put, putAll}
 use Rattle.fields.specs.Fields.{puts, readings, field}

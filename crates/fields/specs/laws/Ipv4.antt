@@ -6,7 +6,7 @@ use mathlib.Core.List.{List}
 use borrow.Author.Tests.{eqb-true, leb-true}
 use lib.Dec.{leb, eqb}
 use lib.ListN.{length}
-use Rattle.residue.specs.Choice.{first, second}
+use Rattle.residue.specs.laws.Choice.{first, second}
 use Rattle.fields.specs.Ethernet.{ipStart, etherType}
 use Rattle.fields.specs.Ipv4.{internet, version, headerLength, totalLength}
 

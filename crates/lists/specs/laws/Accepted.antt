@@ -11,7 +11,7 @@ use lib.Bits.{bitAnd}
 use lib.Dec.{leb, eqb}
 use lib.ListN.{length, drop}
 use borrow.Author.Tests.{leb-true, not-false, lt-ltb, le-leb}
-use Rattle.residue.specs.Choice.{first, second}
+use Rattle.residue.specs.laws.Choice.{first, second}
 use Rattle.residue.specs.Tests.{wellMasked, wellFormed}
 use Rattle.fields.specs.Widths.{fieldCount, full}
 use Rattle.lists.specs.Filters.{maxFilters, maxTests, headWords, testWords, kindEqual, kindDiffers, kindAtMost, kindAtLeast, countWord, kindWord, fieldWord, maskWord, valueWord, filterWords, Filter, testOf, itemOf, itemsOf, filterOf, filtersFrom, filtersOf, testsIn}

@@ -11,7 +11,7 @@ use lib.Dec.{leb, ltb, eqb, lit<}
 use lib.Bits.{bitAnd}
 use lib.ListN.{length, drop}
 use borrow.Author.Tests.{ltb-false, leb-false, eqb-true, eqb-false}
-use Rattle.residue.specs.Choice.{by-cond, neither}
+use Rattle.residue.specs.laws.Choice.{by-cond, neither}
 use Rattle.fields.specs.Widths.{fieldCount, full}
 use Rattle.lists.specs.Filters.{maxFilters, maxTests, maxRank, headWords, testWords, kindAtLeast, groupWord, levelWord, countWord, kindWord, fieldWord, maskWord, valueWord, filterWords}
 use Rattle.lists.specs.Refusals.{masked, testFault, wordsFault, testsFault, filterFault, listedFrom, listed}

@@ -10,9 +10,9 @@ use lib.Bits.{bitAnd}
 use lib.Dec.{ltb, eqb}
 use lib.ListN.{length, getD}
 use borrow.Author.Tests.{ltb-true, ltb-false, eqb-true, lt-ltb, eq-eqb}
-use Rattle.residue.specs.Choice.{never, both, first, second}
+use Rattle.residue.specs.laws.Choice.{never, both, first, second}
 use Rattle.sets.specs.Sets.{setOf, tally, some}
-use Rattle.sets.specs.Laws.{length-tally, getD-tally, and-tally-zero}
+use Rattle.sets.specs.laws.Members.{length-tally, getD-tally, and-tally-zero}
 use Rattle.lists.specs.Filters.{maxFilters, Filter}
 use Rattle.lists.specs.Ranks.{groupOf, levelOf, outranks, above, rankSet, rankSets}
 

@@ -12,10 +12,10 @@ use native.Mathlib.Nat.{not-suc-le-zero, eq-or-lt-of-le, le-of-suc-le-suc}
 use lib.Dec.{ltb}
 use lib.ListN.{length}
 use borrow.Author.Tests.{ltb-true, not-true}
-use Rattle.residue.specs.Choice.{never, both, first, second, by-test, clash}
+use Rattle.residue.specs.laws.Choice.{never, both, first, second, by-test, clash}
 use Rattle.residue.specs.declared.Reading.{Reading}
 use Rattle.sets.specs.Sets.{some, member}
-use Rattle.sets.specs.Laws.{some-true, some-none, member-tally}
+use Rattle.sets.specs.laws.Members.{some-true, some-none, member-tally}
 use Rattle.lists.specs.Filters.{Filter}
 use Rattle.lists.specs.Ranks.{testsOf, above, allHold, fires, matches, matchSet}
 use Rattle.lists.specs.laws.Ranking.{above-irreflexive, above-transitive}

@@ -8,11 +8,11 @@ use borrow.Author.Tests.{not-true, not-false}
 use denote.Ref.{now}
 use Rattle.tables.specs.Tables.{recordWords}
 use Rattle.slots.specs.Words.{filterSlot}
-use Rattle.slots.specs.Slots.{asksIn}
-use Rattle.machine.specs.Remaining.{GoodWords, testsLeft}
-use Rattle.builder.specs.Memory.{slotAt}
-use Rattle.builder.specs.WaysPlaced as P
-use Rattle.builder.specs.Promises.{Asking}
+use Rattle.slots.specs.inner.Slots.{asksIn}
+use Rattle.machine.specs.inner.Remaining.{GoodWords, testsLeft}
+use Rattle.builder.specs.inner.Memory.{slotAt}
+use Rattle.builder.specs.laws.WaysPlaced as P
+use Rattle.builder.specs.inner.Promises.{Asking}
 use borrow.Author.Needs.{needs}
 use Prim.Native.Nat.{ℕ, _<_, _≤_, _*_, _+_}
 use borrow.Fn.Kinds.{In}

@@ -8,8 +8,8 @@ use lib.ListN.{replicate}
 use lib.Seq.{length-front}
 use denote.Ref.{now}
 use Rattle.slots.specs.Words.{filterSlot, slotWords}
-use Rattle.builder.specs.Promises.{Stored}
-use Rattle.builder.specs.Starting as S
+use Rattle.builder.specs.inner.Promises.{Stored}
+use Rattle.builder.specs.laws.Starting as S
 use Rattle.builder.proofs.Meeting.{front-long, front-fits, front-is, front-whole}
 use Rattle.builder.proofs.Starting as A
 use borrow.Author.Needs.{needs}

@@ -1,7 +1,7 @@
 -- `slots::filter::clear_from` meets its contract. The loop's invariant: clearing from where the loop stands gives what clearing from the start gives.
 -- Assumes nothing.
 use Rattle.slots.proofs.Cutting.{cleared-step, cleared-all}
-use Rattle.slots.specs.Steps.{clearedFrom}
+use Rattle.slots.specs.inner.Steps.{clearedFrom}
 use lib.ListN.{length, length-set}
 use native.Mathlib.Omega.{arith}
 use mathlib.Core.Path.{_≡_, refl, sym, _∙_}

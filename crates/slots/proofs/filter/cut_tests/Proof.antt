@@ -4,7 +4,7 @@ use Rattle.residue.specs.declared.Fact.{Fact}
 use mathlib.Core.List.{List}
 use Prim.Native.Nat.{ℕ}
 use Rattle.slots.proofs.Cutting.{rest, rest-stop, rest-end, finished-start, finished-end, turn-out, turn-again}
-use Rattle.slots.specs.Steps.{finished}
+use Rattle.slots.specs.inner.Steps.{finished}
 use Rattle.slots.specs.Words.{filterSlot, writtenFilter, readItems}
 use Rattle.states.specs.States.{cut}
 use Rattle.lists.specs.Filters.{maxTests, testWords}
