@@ -5,7 +5,7 @@
 --   recordsIn fs   the words of its records
 --   slotsIn n ranks   the machine whose states are the words of a slot of n filters
 use Prim.Native.Nat.{ℕ, suc}
-use mathlib.Core.List.{List, [], _∷_}
+use mathlib.Core.List.{List, []}
 use Rattle.lists.specs.Filters.{Filter, testsIn}
 use Rattle.states.specs.States.{State, questionOf, start, step, sureSet, outSet}
 use Rattle.states.specs.Runs.{asks}
