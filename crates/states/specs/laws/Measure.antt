@@ -12,7 +12,6 @@ use Rattle.residue.specs.Residues.{residueBy}
 use Rattle.residue.specs.laws.Choice.{by-cond, either}
 use Rattle.residue.specs.Relations.{isSettled}
 use Rattle.residue.specs.laws.Questions.{residue-own}
-use Rattle.residue.specs.declared.Reading.{Reading}
 use Rattle.residue.specs.declared.Fact.{Fact}
 use Rattle.residue.specs.declared.Outcome.{Outcome}
 use Rattle.residue.specs.declared.Residue.{Residue}
@@ -171,7 +170,3 @@ pub path-tests : (fs : List Filter) (os : List Outcome) → wellFilters fs ≡ t
 path-tests fs os h a =
     let p = follow-leads fs os (start fs) in
     omega (arith, p .2 a, leads-tests fs h (p .1))
-
--- ---- the path of a frame by document 01's questions
-
-module _ (fs : List Filter) (r : ℕ → Reading) where

@@ -1,10 +1,9 @@
 -- What a step never takes back: a sure filter stays sure and an out filter stays out, whatever the outcome. Closed states stay closed.
-use Prim.Native.Nat.{ℕ, _≤_}
+use Prim.Native.Nat.{ℕ}
 use mathlib.Core.Path.{_≡_, refl}
 use mathlib.Core.Bool.{Bool, true, false, cond, false≢true}
 use mathlib.Core.List.{List, [], _∷_, map}
 use Rattle.residue.specs.laws.Choice.{by-cond, never, clash}
-use Rattle.residue.specs.declared.Reading.{Reading}
 use Rattle.residue.specs.declared.Fact.{Fact}
 use Rattle.residue.specs.declared.Outcome.{Outcome}
 use Rattle.lists.specs.Filters.{Item, Filter}
@@ -95,8 +94,3 @@ module _ (fs : List Filter) {n : ℕ} {s t : State} (p : Leads fs Free n s t) wh
 
   pub leads-out : (i : ℕ) → isOut (standing s i) ≡ true → isOut (standing t i) ≡ true
   leads-out i e = leads-keeps (λ (x : State). isOut (standing x i) ≡ true) (λ q o x _ z. out-stays fs o q x i z) p e
-
--- ---- along the path of a frame by document 01's questions
-
-module _ (fs : List Filter) (r : ℕ → Reading) (n : ℕ) where
-  module _ (m : ℕ) (s : State) (i : ℕ) (l : n ≤ m) where
