@@ -1,8 +1,8 @@
 -- What the code does with words is what the definitions of states say: on the words of a state s of the list fs that fits its slot, each function on words gives the words, or the set, of its counterpart.
 --   questionWords a   the words of a question; zeros where nothing is asked
--- Encoding: fitsSlot, fits-start, fits-step, fits-next, length-written, read-written, written-injective.
+-- Encoding: see laws/Fitting and laws/Reading.
 -- Sets: held-written, out-written, sure-written. Steps: closed-written, cut-written, by-written, step-written, next-written, start-written, start-accepted.
--- Questions: question-written, asks-written, none-written, length-question. Sameness: same-words-eq, same-words-refl, same-written.
+-- Questions: question-written, asks-written, length-question. Sameness: same-words-eq, same-words-refl, same-written.
 use Prim.Native.Nat.{ℕ, zero, suc, _+_, _*_, _-_, _^_, _≤_, _<_}
 use mathlib.Core.Path.{_≡_, refl, sym, ap, ap₂, _∙_}
 use mathlib.Core.Bool.{Bool, true, false, cond, not, _&&_, false≢true}

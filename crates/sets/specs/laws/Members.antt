@@ -1,10 +1,10 @@
 -- Laws of bit sets. None names a width; minus-sets takes the width of the word as an argument.
 --   each f xs ys   the list of f x y, place by place
 --   none bs        no truth in the list
--- A set and its list: member-empty, member-setOf, setOf-bound, setOf-injective, set-snoc, or-snoc.
--- Operations: member-or, member-one, and-sets, or-sets, minus-sets; empty sets: zero-sets.
+-- A set and its list: member-empty, member-setOf, setOf-bound, set-snoc.
+-- Operations: member-or, member-one, and-sets, minus-sets; empty sets: zero-sets.
 -- Tallies: length-tally, getD-tally, getD-tally-beyond, member-tally, tally-ext, each-tally, and-tally-zero.
--- Some: some-true, some-false, some-where, some-ext.
+-- Some: some-true, some-where.
 -- Assumes nothing.
 use Prim.Native.Nat.{ℕ, zero, suc, _+_, _-_, _*_, _/_, _%_, _^_, _≤_, _<_, min, max}
 use mathlib.Core.Path.{_≡_, refl, sym, ap, ap₂, _∙_}

@@ -1,8 +1,7 @@
 -- The path of a frame and the states that outcomes lead to, both by document 01's questions, are paths by remaining tests: what each question keeps, they keep.
 --   by-question            a state is final or asks
 --   question-left, left-asks   the question of a state is one of its remaining tests, and it has one where any remains
---   run-picks, picks-run   run and askedIn are the frame's path by document 01's questions, up to the allowance or to a final state
---   run-path, run-further  so they are a path of the frame, and a greater allowance goes on
+--   picks-run              the frame's path by document 01's questions, up to the allowance or to a final state, is run, and its count askedIn
 --   follow-leads           outcomes lead on by a question each, as long as there is one
 use Prim.Native.Nat.{ℕ, zero, suc, _≤_}
 use mathlib.Core.Path.{_≡_, refl, sym, ap, _∙_, subst}

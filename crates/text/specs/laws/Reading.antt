@@ -1,5 +1,4 @@
 -- What the definitions of a text come to, in plain words.
---   words-accepted     an accepted text's words are the numbers of all its items
 --   items-separator    a separator in front of a text makes no item
 --   items-run          a run of other bytes with a separator behind it is an item, and the items of the rest follow
 --   items-last         so is a run at the text's end
