@@ -11,7 +11,7 @@ use Rattle.tables.specs.Tables.{recordWords, freshRecord, recordAt}
 use Rattle.tables.specs.laws.Layout.{record-long}
 use Rattle.slots.specs.Words.{filterSlot, slotWords}
 use Rattle.slots.specs.inner.Slots.{questionIn, sureSetIn, outSetIn}
-use Rattle.slots.specs.Laws.{length-question}
+use Rattle.slots.specs.laws.Written.{length-question}
 use Rattle.machine.specs.Box.{slotsIn}
 use Rattle.automaton.specs.inner.Placing.{freshOf, stored}
 use Rattle.builder.specs.inner.Memory.{slotAt, statesIn, recordsAt, memoryOf}

@@ -12,7 +12,7 @@ use Rattle.states.specs.Runs.{asks}
 use Rattle.states.specs.Same.{sameState}
 use Rattle.automaton.specs.Machines.{Machine, visit, recordsOf}
 use Rattle.slots.specs.inner.Slots.{questionIn, asksIn, stepWords, sureSetIn, outSetIn, sameWords}
-use Rattle.slots.specs.Laws.{questionWords}
+use Rattle.slots.specs.Words.{questionWords}
 
 abbrev pub boxOf : List Filter → Machine
 boxOf fs =

@@ -18,7 +18,7 @@ use Rattle.states.specs.Same as SM
 use Rattle.states.specs.Runs as SA
 use Rattle.tables.specs.Tables as TB
 use Rattle.automaton.specs.Machines as MM
-use Rattle.slots.specs.Laws as SL
+use Rattle.slots.specs.Words as SL
 use Rattle.machine.specs.Box as BX
 
 -- Echo request; echo reply with time to live 1; time to live 1: in the groups and levels given, and as printed.

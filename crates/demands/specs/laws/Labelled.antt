@@ -20,7 +20,7 @@ use Rattle.automaton.specs.laws.Lists.{getD-mem}
 use Rattle.automaton.specs.laws.Places.{mem-meets, place-below}
 use Rattle.tables.specs.Tables.{recordWords, maxSlots, slotsOf, wordOf, setAt, questionAt, wayAt, sureAt, outAt, sureSetAt, outSetAt}
 use Rattle.tables.specs.laws.Least.{slots-least}
-use Rattle.slots.specs.Laws.{questionWords}
+use Rattle.slots.specs.Words.{questionWords}
 use Rattle.machine.specs.Box.{boxOf, statesOf, recordsIn}
 use Rattle.machine.specs.laws.Front.{front-spells, front-way}
 use Rattle.machine.specs.laws.Lawful.{Good, box-lawful, states-good, states-closed, states-place, states-some, records-size, start-first, start-met}

@@ -17,7 +17,7 @@ use Rattle.states.specs.States.{State, start, remaining}
 use Rattle.states.specs.laws.Measure.{start-remaining}
 use Rattle.slots.specs.Words.{written, readState}
 use Rattle.slots.specs.inner.Slots.{asksIn, stepWords, startWords}
-use Rattle.slots.specs.Laws.{start-accepted}
+use Rattle.slots.specs.laws.Written.{start-accepted}
 use Rattle.slots.specs.laws.Reading.{read-written}
 use Rattle.machine.specs.laws.Lawful.{Good, good-start, box-lawful}
 use Rattle.machine.specs.laws.Carried.{slots-carried}

@@ -18,7 +18,7 @@ use Rattle.lists.specs.Ranks.{rankSets}
 use Rattle.states.specs.States.{start}
 use Rattle.slots.specs.Words.{written}
 use Rattle.slots.specs.inner.Slots.{startWords}
-use Rattle.slots.specs.Laws.{same-written, asks-written, next-written, question-written, sure-written, out-written, start-accepted}
+use Rattle.slots.specs.laws.Written.{same-written, asks-written, next-written, question-written, sure-written, out-written, start-accepted}
 use Rattle.automaton.specs.Machines.{recordOf}
 use Rattle.automaton.specs.inner.Placing.{Placement, slotless, slotted, placeAll}
 use Rattle.automaton.specs.laws.MetPlaced.{holding}

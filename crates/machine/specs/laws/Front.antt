@@ -15,7 +15,7 @@ use Rattle.tables.specs.Tables.{recordWith, recordAt, wayAt}
 use Rattle.tables.specs.laws.Layout.{Spells, record-spells}
 use Rattle.automaton.specs.Machines.{placeOf, nextsOf, recordOf}
 use Rattle.automaton.specs.laws.Records.{record-at}
-use Rattle.slots.specs.Laws.{questionWords}
+use Rattle.slots.specs.Words.{questionWords}
 use Rattle.machine.specs.Box.{boxOf, statesOf, recordsIn}
 use Rattle.machine.specs.laws.Lawful.{question-four, box-lawful, states-good}
 

@@ -24,7 +24,7 @@ use Rattle.automaton.specs.laws.Lists.{Each}
 use Rattle.automaton.specs.laws.Places.{place-below}
 use Rattle.automaton.specs.laws.Records.{records-long}
 use Rattle.states.specs.Runs.{asks}
-use Rattle.slots.specs.Laws.{questionWords}
+use Rattle.slots.specs.Words.{questionWords}
 use Rattle.slots.specs.laws.Fitting.{fitsSlot, fits-start, fits-step}
 use Rattle.machine.specs.Box.{boxOf, levelsOf, statesOf, recordsIn}
 

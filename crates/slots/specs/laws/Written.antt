@@ -1,5 +1,4 @@
 -- What the code does with words is what the definitions of states say: on the words of a state s of the list fs that fits its slot, each function on words gives the words, or the set, of its counterpart.
---   questionWords a   the words of a question; zeros where nothing is asked
 -- Encoding: see laws/Fitting and laws/Reading.
 -- Sets: held-written, out-written, sure-written. Steps: closed-written, cut-written, by-written, step-written, next-written, start-written, start-accepted.
 -- Questions: question-written, asks-written, length-question. Sameness: same-words-eq, same-words-refl, same-written.
@@ -35,7 +34,7 @@ use Rattle.lists.specs.laws.Ranking.{getD-rankSets, rankSet-in, rankSet-clear}
 use Rattle.states.specs.States.{Standing, out, left, State, standing, isHeld, isOut, cutStanding, beaten, closedFrom, closed, allLeft, start, Question, nothing, ask, questionOf, stepBy, stepAt, step, sure, sureSet, outSet}
 use Rattle.states.specs.Runs.{asks}
 use Rattle.states.specs.Same.{sameState, same-state-eq, same-state-refl}
-use Rattle.slots.specs.Words.{filterSlot, outMark, itemsWords, outWords, writtenFilter, written, readFilter}
+use Rattle.slots.specs.Words.{questionWords, filterSlot, outMark, itemsWords, outWords, writtenFilter, written, readFilter}
 use Rattle.slots.specs.inner.Slots.{headOf, heldSet, outSetIn, sureSetIn, closedIn, closedWords, hasTest, fourWords, questionIn, asksIn, cutWords, stepQuestion, stepWords, startWords, sameWords}
 use Rattle.slots.specs.laws.Fitting.{fitsStanding, fitsSlot, fits-cut, fits-all}
 use Rattle.slots.specs.laws.Reading.{length-filter, take-filter, drop-filter, held-word, out-word, kind-mark, read-filter, written-injective}
@@ -119,10 +118,6 @@ module _ (fs : List Filter) (s : State) (l : length s ≡ length fs) (few : leng
   closed-written = ap (λ (m : ℕ). closedIn m (rankSets fs) (heldSet (length fs) (written s)) 0 (written s)) (sym l) ∙ closed-from 0 s (omega arith) fit
 
 -- ---- questions
-
-unfoldable pub questionWords : Question → List ℕ
-questionWords nothing = 0 ∷ 0 ∷ 0 ∷ 0 ∷ []
-questionWords (ask q) = itemWords q
 
 question-from : (s : State) → fitsSlot s ≡ true → questionIn (length s) (written s) ≡ questionWords (questionOf s)
 unfolding questionIn questionWords questionOf written fitsSlot hasTest fourWords writtenFilter outWords itemsWords itemWords
