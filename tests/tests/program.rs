@@ -3,6 +3,7 @@
 //! machine runs itself; where it is not built, the checks are skipped.
 
 use std::env;
+use std::fs;
 use std::io::Write;
 use std::path::PathBuf;
 use std::process::{Command, Stdio};
@@ -67,8 +68,9 @@ const NO_ITEMS: [&str; 26] = [
 fn main() {
     let mut runner = Runner::new();
     RANDOM_TEXTS.tell();
-    let checks: [(&str, Check); 9] = [
+    let checks: [(&str, Check); 10] = [
         ("program_prints_the_example", example),
+        ("program_prints_the_shipped_lists_as_the_page_says", shipped_lists),
         ("program_gives_each_refusal", refusals),
         ("program_lends_16_slots", slots),
         ("program_reads_empty_and_blank_texts", blank_texts),
@@ -153,6 +155,18 @@ fn example(program: &Program) {
     program.prints(text.as_bytes(), EXAMPLE);
     program.prints(format!("{text}\n").as_bytes(), EXAMPLE);
     program.prints(format!("\n  {}  \n\n", text.replace(' ', " \n ")).as_bytes(), EXAMPLE);
+}
+
+/// The tables on the technicians' page are those of the lists that are shipped.
+fn shipped_lists(program: &Program) {
+    let page = fs::read_to_string(root().join("docs/TECHNICIANS.md")).expect("the page");
+    for name in ["echo", "masked"] {
+        let list = fs::read(root().join(format!("examples/{name}.list"))).expect("a shipped list");
+        let table = program.print(&[&list]);
+        assert!(table.starts_with("states "), "{name}: {table}");
+        assert!(page.contains(&format!("```\n{table}```\n")), "{name}: not on the page:\n{table}");
+        program.check(&list);
+    }
 }
 
 fn refusals(program: &Program) {

@@ -1,5 +1,5 @@
 -- What is asked of a machine, and what is said of lists of its states.
---   Lawful M Good left  on good states: same is equality, a step from an asking state is good and has less left, a record's words are four and two
+--   Lawful M Good left  on good states: same is equality, a step from an asking state is good and has less left, a question has the words of one
 --   Reached M s t       outcomes lead from s to t, each from a state that asks
 --   Distinct M met      no state stands twice in met
 use Prim.Native.Nat.{ℕ, _<_}
@@ -8,6 +8,7 @@ use mathlib.Core.Bool.{true, false}
 use mathlib.Core.List.{List, [], _∷_}
 use lib.ListN.{length}
 use Rattle.residue.specs.declared.Outcome.{Outcome}
+use Rattle.tables.specs.Tables.{askWords}
 use Rattle.automaton.specs.Machines.{Machine}
 
 pub record Lawful (M : Machine) (Good : M .State → Type 0) (left : M .State → ℕ) : Type 0 where
@@ -15,8 +16,7 @@ pub record Lawful (M : Machine) (Good : M .State → Type 0) (left : M .State �
   pub same-refl : (a : M .State) → Good a → M .same a a ≡ true
   pub good-step : (o : Outcome) (s : M .State) → Good s → M .asks s ≡ true → Good (M .step o s)
   pub falls : (o : Outcome) (s : M .State) → Good s → M .asks s ≡ true → left (M .step o s) < left s
-  pub question-long : (s : M .State) → Good s → length (M .question s) ≡ 4
-  pub sets-long : (s : M .State) → Good s → length (M .sets s) ≡ 2
+  pub question-long : (s : M .State) → Good s → length (M .question s) ≡ askWords
 
 pub data Reached (M : Machine) (s : M .State) : M .State → Type 0 where
   start : Reached M s s

@@ -1,10 +1,4 @@
 pub mod Machines
-pub mod Placing
-pub mod Lists
 pub mod Lawful
-pub mod Visited
-pub mod Places
-pub mod Reaching
-pub mod Records
-pub mod Placed
-pub mod Carrying
+pub mod laws
+pub mod inner

@@ -3,13 +3,15 @@
 --   meets M met s    s is one of the states met
 --   placeOf M met s  its number: its place among the states met
 --   visit M f met s  the states met once s has been met and built to its end, after those of met; f is more than the questions that can follow
---   recordOf M met s the nine words of the record of s, each next state by its number
+--   nextsOf M met s  the next number at each outcome, 0 where s has no question
+--   recordOf M met s the words of the record of s
 --   recordsOf M met  the records of all states met, in the order of their numbers
 use Prim.Native.Nat.{ℕ, zero, suc, _+_}
 use mathlib.Core.Bool.{Bool, true, false, cond, _||_}
 use mathlib.Core.List.{List, [], _∷_, _++_, map}
 use Rattle.residue.specs.declared.Outcome.{Outcome}
 use Rattle.residue.specs.declared.Outcome.the-variants.{Holds, Fails, Absent}
+use Rattle.tables.specs.Tables.{recordWith}
 
 pub record Machine : Type 1 where
   pub State : Type 0
@@ -20,7 +22,8 @@ pub record Machine : Type 1 where
   -- kind, field, mask and value of the question; zeros where there is none
   pub question : State → List ℕ
   -- the sure set and the out set
-  pub sets : State → List ℕ
+  pub sure : State → ℕ
+  pub out : State → ℕ
 
 unfoldable pub meets : (M : Machine) → List (M .State) → M .State → Bool
 meets M [] s = false
@@ -46,14 +49,11 @@ visit M (suc f) met s =
       ]
     ]
 
-unfoldable pub nextsOf : (M : Machine) → List (M .State) → M .State → List ℕ
-nextsOf M met s =
-    cond (M .asks s)
-    (placeOf M met (M .step Holds s) ∷ placeOf M met (M .step Fails s) ∷ placeOf M met (M .step Absent s) ∷ [])
-    (0 ∷ 0 ∷ 0 ∷ [])
+unfoldable pub nextsOf : (M : Machine) → List (M .State) → M .State → Outcome → ℕ
+nextsOf M met s o = cond (M .asks s) (placeOf M met (M .step o s)) 0
 
 unfoldable pub recordOf : (M : Machine) → List (M .State) → M .State → List ℕ
-recordOf M met s = M .question s ++ nextsOf M met s ++ M .sets s
+recordOf M met s = recordWith (M .question s) (nextsOf M met s) (M .sure s) (M .out s)
 
 unfoldable pub flat : List (List ℕ) → List ℕ
 flat [] = []

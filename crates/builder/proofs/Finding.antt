@@ -10,15 +10,15 @@ use native.Mathlib.Omega.{arith}
 use lib.Dec.{eqb}
 use lib.ListN.{length, take, drop, getD}
 use Rattle.sets.specs.Sets.{tally}
-use Rattle.sets.specs.Laws.{tally-more}
+use Rattle.sets.specs.laws.Members.{tally-more}
 use Rattle.slots.specs.Words.{filterSlot, slotWords}
-use Rattle.slots.specs.Slots.{sameWords, questionIn, asksIn}
+use Rattle.slots.specs.inner.Slots.{sameWords, questionIn, asksIn}
 use Rattle.machine.specs.Box.{slotsIn}
 use Rattle.automaton.specs.Machines.{Machine, meets, placeOf}
-use Rattle.automaton.specs.Lists.{Begins, begins-refl, begins-append, begins-trans}
-use Rattle.automaton.specs.Places.{meets-append, place-begins}
-use Rattle.builder.specs.Memory.{slotAt, statesIn, foundIn}
-use Rattle.builder.specs.Placed.{length-states}
+use Rattle.automaton.specs.laws.Lists.{Begins, begins-refl, begins-append, begins-trans}
+use Rattle.automaton.specs.laws.Places.{meets-append, place-begins}
+use Rattle.builder.specs.inner.Memory.{slotAt, statesIn, foundIn}
+use Rattle.builder.specs.laws.WaysPlaced.{length-states}
 use Rattle.builder.specs.declared.Found.the-variants as F
 
 -- The part of the slots that a call is lent is the state there.

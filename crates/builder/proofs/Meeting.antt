@@ -11,14 +11,14 @@ use lib.Seq.{take-at, length-take-le}
 use Rattle.residue.specs.declared.Outcome.{Outcome}
 use Rattle.lists.specs.Filters.{itemOf}
 use Rattle.slots.specs.Words.{filterSlot, slotWords}
-use Rattle.slots.specs.Slots.{questionIn, stepQuestion, stepWords}
-use Rattle.slots.specs.Steps.{Stepped}
+use Rattle.slots.specs.inner.Slots.{questionIn, stepQuestion, stepWords}
+use Rattle.slots.specs.inner.Steps.{Stepped}
 use Rattle.machine.specs.Box.{slotsIn}
 use Rattle.automaton.specs.Machines.{meets, placeOf}
-use Rattle.automaton.specs.Places.{place-below}
-use Rattle.builder.specs.Memory.{slotAt, statesIn, foundIn}
-use Rattle.builder.specs.Placed.{length-states}
-use Rattle.builder.specs.Promises.{Ready, Search, Store, Stored, Meeting}
+use Rattle.automaton.specs.laws.Places.{place-below}
+use Rattle.builder.specs.inner.Memory.{slotAt, statesIn, foundIn}
+use Rattle.builder.specs.laws.WaysPlaced.{length-states}
+use Rattle.builder.specs.inner.Promises.{Ready, Search, Store, Stored, Meeting}
 use Rattle.builder.specs.declared.Found.{Found}
 use Rattle.builder.specs.declared.Found.the-variants as F
 use Rattle.builder.specs.declared.Met.the-variants as M
@@ -135,8 +135,8 @@ module _ (n slots : ℕ) (ranks : List ℕ) (used : ℕ) (t s c c' : List ℕ) (
   unfolding foundIn
   unmet e = found-new (meets (slotsIn n ranks) (statesIn n used s) c') (placeOf (slotsIn n ranks) (statesIn n used s) c') (sym e ∙ answer)
 
-  pub met-full : r ≡ F.Nothing → used ≡ slots → Meeting n slots ranks used t s c' M.Full t s
-  met-full e h = (unmet e, omega arith, refl, refl)
+  pub met-slotless : r ≡ F.Nothing → used ≡ slots → Meeting n slots ranks used t s c' M.Slotless t s
+  met-slotless e h = (unmet e, omega arith, refl, refl)
 
   pub met-new : (t' s' : List ℕ) → r ≡ F.Nothing → used < slots → Stored n slots ranks used t s c t' s' → Meeting n slots ranks used t s c' M.New t' s'
   met-new t' s' e h st =

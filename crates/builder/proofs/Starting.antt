@@ -6,11 +6,12 @@ use mathlib.Core.List.{List}
 use native.Mathlib.Omega.{arith}
 use lib.ListN.{length}
 use Rattle.lists.specs.Filters.{maxFilters, filtersOf}
-use Rattle.lists.specs.Laws.{accepted-count, length-rankSets}
+use Rattle.lists.specs.laws.Accepted.{accepted-count}
+use Rattle.lists.specs.laws.Ranking.{length-rankSets}
 use Rattle.tables.specs.Tables.{recordWords}
 use Rattle.slots.specs.Words.{filterSlot, slotWords}
-use Rattle.slots.specs.Steps.{Starts}
-use Rattle.builder.specs.Promises.{Ready, Store}
+use Rattle.slots.specs.inner.Steps.{Starts}
+use Rattle.builder.specs.inner.Promises.{Ready, Store}
 use Rattle.builder.specs.Building.{Startable}
 
 module _ (n slots : ℕ) (ranks l t s : List ℕ) (able : Startable n slots ranks l t s) where

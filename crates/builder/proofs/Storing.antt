@@ -1,78 +1,38 @@
--- Words put into lent memory at a place: what lies before and behind stays. So a state and its record are stored behind the others.
+-- A state and its record are put into lent memory behind the others, which stay.
 -- Assumes nothing.
-use Prim.Native.Nat.{ℕ, zero, suc, _+_, _*_, _-_, _≤_}
+use Prim.Native.Nat.{ℕ, _+_, _*_, _-_, _≤_}
 use mathlib.Core.Path.{_≡_, refl, sym, ap, ap₂, _∙_, subst}
-use mathlib.Core.Bool.{Bool, true, false, cond}
-use mathlib.Core.List.{List, [], _∷_, _++_, append-assoc}
+use mathlib.Core.List.{List, [], _∷_, _++_}
 use native.Mathlib.Omega.{arith}
-use borrow.Rule.Slice.PartMut.{midOf, postOf, putMid, take-put}
-use lib.ListN.{length, take, drop, length-drop, length-append, take-append-drop}
-use lib.Seq.{take-at, drop-at, drop-append-le, drop-drop, length-take-le}
-use Rattle.tables.specs.Tables.{recordWords}
+use borrow.Rule.Slice.PartMut.{midOf, putMid}
+use lib.ListN.{length, take, drop}
+use Rattle.words.specs.laws.Lending.{later, put-before, put-there, put-behind}
+use Rattle.tables.specs.Tables.{recordWords, freshRecord, recordAt}
+use Rattle.tables.specs.laws.Layout.{record-long}
 use Rattle.slots.specs.Words.{filterSlot, slotWords}
-use Rattle.slots.specs.Slots.{freshWords, questionIn, fourWords, hasTest, sureSetIn, outSetIn}
+use Rattle.slots.specs.inner.Slots.{questionIn, sureSetIn, outSetIn}
+use Rattle.slots.specs.laws.Written.{length-question}
 use Rattle.machine.specs.Box.{slotsIn}
-use Rattle.automaton.specs.Placing.{stored, freshRecord}
-use Rattle.builder.specs.Memory.{slotAt, recordAt, statesIn, recordsAt, memoryOf}
-use Rattle.builder.specs.MemoryLaws.{states-more, records-more}
-use Rattle.builder.specs.Placed.{later}
-use Rattle.builder.specs.Promises.{Store, Stored}
+use Rattle.automaton.specs.inner.Placing.{freshOf, stored}
+use Rattle.builder.specs.inner.Memory.{slotAt, statesIn, recordsAt, memoryOf}
+use Rattle.builder.specs.laws.Memory.{states-more, records-more}
+use Rattle.builder.specs.inner.Promises.{Store, Stored}
 
--- ---- k words w put in from place a on, in a tail that was lent
+-- The record that is written is the candidate's.
+pub fresh-is : (n : ℕ) (ranks c : List ℕ) (kind field mask value sure out : ℕ)
+    → kind ∷ field ∷ mask ∷ value ∷ [] ≡ questionIn n c → sure ≡ sureSetIn n ranks c → out ≡ outSetIn n c
+    → freshRecord (kind ∷ field ∷ mask ∷ value ∷ []) sure out ≡ freshOf (slotsIn n ranks) c
+unfolding freshOf
+fresh-is n ranks c kind field mask value sure out q s o = rw (q, s, o)
 
-module _ (a k : ℕ) (l w p : List ℕ) (long : length w ≡ k) (room : a + k ≤ length l)
-    (put : p ≡ w ++ drop k (midOf a (length l - a) l)) where
-  abbrev put-in : List ℕ
-  put-in = putMid a (length l - a) l p
-
-  -- The old words of the tail that stay.
-  abbrev stay : List ℕ
-  stay = drop k (midOf a (length l - a) l) ++ postOf a (length l - a) l
-
-  tail-is : drop a put-in ≡ w ++ stay
-  tail-is =
-      drop-at (take a l) (p ++ postOf a (length l - a) l) a (length-take-le a l (omega arith))
-      ∙ ap (λ (x : List ℕ). x ++ postOf a (length l - a) l) put
-      ∙ append-assoc w (drop k (midOf a (length l - a) l)) (postOf a (length l - a) l)
-
-  pub put-before : take a put-in ≡ take a l
-  put-before = take-put a (length l - a) l p (omega arith)
-
-  pub put-there : take k (drop a put-in) ≡ w
-  put-there = ap (λ (x : List ℕ). take k x) tail-is ∙ take-at w stay k long
-
-  pub put-behind : drop (a + k) put-in ≡ drop (a + k) l
-  put-behind =
-      let tail = length-drop a l in
-      let part = length-take-le (length l - a) (drop a l) (omega arith) in
-      sym (drop-drop k a put-in)
-      ∙ ap (λ (x : List ℕ). drop k x) tail-is
-      ∙ drop-at w stay k long
-      ∙ sym (drop-append-le k (midOf a (length l - a) l) (postOf a (length l - a) l) (omega arith))
-      ∙ ap (λ (x : List ℕ). drop k x) (take-append-drop (length l - a) (drop a l))
-      ∙ drop-drop k a l
-
--- ---- a state and its record
-
-four-long : (n : ℕ) (w : List ℕ) → length (questionIn n w) ≡ 4
-unfolding questionIn fourWords
-four-long zero w = refl
-four-long (suc n) w = go (hasTest w) (four-long n (drop filterSlot w))
-  where
-    go : (b : Bool) → length (questionIn n (drop filterSlot w)) ≡ 4 → length (cond b (fourWords w) (questionIn n (drop filterSlot w))) ≡ 4
-    go true e = refl
-    go false e = e
-
-fresh-long : (n : ℕ) (ranks w : List ℕ) → length (freshWords n ranks w) ≡ recordWords
-unfolding freshWords
-fresh-long n ranks w =
-    length-append (questionIn n w ++ (0 ∷ 0 ∷ 0 ∷ [])) (sureSetIn n ranks w ∷ outSetIn n w ∷ [])
-    ∙ ap (λ (k : ℕ). k + 2) (length-append (questionIn n w) (0 ∷ 0 ∷ 0 ∷ []) ∙ ap (λ (k : ℕ). k + 3) (four-long n w))
+fresh-long : (n : ℕ) (ranks c : List ℕ) → length (freshOf (slotsIn n ranks) c) ≡ recordWords
+unfolding freshOf freshRecord
+fresh-long n ranks c = record-long (questionIn n c) (λ _. 0) (sureSetIn n ranks c) (outSetIn n c) (length-question n c)
 
 memory-more : (n : ℕ) (ranks : List ℕ) (used : ℕ) (t s c t' s' : List ℕ) → statesIn n (used + 1) s' ≡ statesIn n used s ++ (c ∷ [])
-    → recordsAt (used + 1) t' ≡ recordsAt used t ++ (freshWords n ranks c ∷ [])
+    → recordsAt (used + 1) t' ≡ recordsAt used t ++ (freshOf (slotsIn n ranks) c ∷ [])
     → memoryOf n ranks (used + 1) t' s' ≡ stored (slotsIn n ranks) c (memoryOf n ranks used t s)
-unfolding memoryOf stored freshRecord freshWords
+unfolding memoryOf stored
 memory-more n ranks used t s c t' s' e q =
     ap₂ (λ (a b : List (List ℕ)). record { met = a; records = b }) e q
 
@@ -91,11 +51,11 @@ unfolding recordAt
 record-there used t w q long room f = put-there (recordWords * used) recordWords t w q long room f
 
 -- The candidate is copied into a lent tail of the slots, its record into one of the table.
-pub stored-both : (n slots : ℕ) (ranks : List ℕ) (used : ℕ) (t s c p q : List ℕ) → Store n slots ranks used t s c
+pub stored-both : (n slots : ℕ) (ranks : List ℕ) (used : ℕ) (t s c p q fresh : List ℕ) → Store n slots ranks used t s c
     → p ≡ c ++ drop (length c) (midOf (slotWords * used) (length s - slotWords * used) s)
-    → q ≡ freshWords n ranks c ++ drop recordWords (midOf (recordWords * used) (length t - recordWords * used) t)
+    → q ≡ fresh ++ drop recordWords (midOf (recordWords * used) (length t - recordWords * used) t) → fresh ≡ freshOf (slotsIn n ranks) c
     → Stored n slots ranks used t s c (putMid (recordWords * used) (length t - recordWords * used) t q) (putMid (slotWords * used) (length s - slotWords * used) s p)
-stored-both n slots ranks used t s c p q asked e f =
+stored-both n slots ranks used t s c p q fresh asked e f is =
     let filters = asked .filters in
     let below = asked .below in
     let tabled = asked .tabled in
@@ -108,15 +68,16 @@ stored-both n slots ranks used t s c p q asked e f =
     let fits : a + length c ≤ length s = omega arith in
     let room : b + recordWords ≤ length t = omega arith in
     let long = fresh-long n ranks c in
+    let put = f ∙ ap (λ (x : List ℕ). x ++ drop recordWords (midOf b (length t - b) t)) is in
     let next : b + recordWords ≡ recordWords * (used + 1) = omega arith in
     let kept : take a s' ≡ take a s = put-before a (length c) s c p refl fits e in
     let there : slotAt n s' used ≡ c = slot-there n used s c p whole fits e in
     record {
       memory =
           memory-more n ranks used t s c t' s' (states-more n used s s' c filters kept there)
-          (records-more used t t' (freshWords n ranks c) (put-before b recordWords t (freshWords n ranks c) q long room f)
-          (record-there used t (freshWords n ranks c) q long room f));
-      after = subst (λ (k : ℕ). drop k t' ≡ drop k t) next (put-behind b recordWords t (freshWords n ranks c) q long room f);
+          (records-more used t t' (freshOf (slotsIn n ranks) c) (put-before b recordWords t (freshOf (slotsIn n ranks) c) q long room put)
+          (record-there used t (freshOf (slotsIn n ranks) c) q long room put));
+      after = subst (λ (k : ℕ). drop k t' ≡ drop k t) next (put-behind b recordWords t (freshOf (slotsIn n ranks) c) q long room put);
       kept = kept;
       beyond = later (a + length c) (slotWords * slots) s' s (omega arith) (put-behind a (length c) s c p refl fits e);
     }

@@ -1,6 +1,6 @@
 -- From what placing leaves to what building promises: the records are the table's front, and clearing leaves zeros.
 -- Assumes nothing.
-use Prim.Native.Nat.{ℕ, zero, suc, _+_, _*_, _-_, _≤_, _<_}
+use Prim.Native.Nat.{ℕ, zero, suc, _+_, _*_, _≤_, _<_}
 use mathlib.Core.Path.{_≡_, refl, ap, sym, _∙_, subst}
 use mathlib.Core.Bool.{Bool, true, false, cond}
 use mathlib.Core.List.{List, [], _∷_, _++_, map, append-nil, append-assoc}
@@ -15,19 +15,20 @@ use Rattle.lists.specs.Refusals.{listed}
 use Rattle.lists.specs.declared.Listed.{Listed}
 use Rattle.lists.specs.declared.Listed.the-variants.{Accepted, Refused}
 use Rattle.sets.specs.Sets.{tally}
-use Rattle.tables.specs.Tables.{recordWords, maxSlots, slotsOf}
+use Rattle.words.specs.Lent.{cleared}
+use Rattle.tables.specs.Tables.{recordWords, maxSlots, slotsOf, recordAt}
 use Rattle.slots.specs.Words.{slotWords, written}
 use Rattle.automaton.specs.Machines.{Machine, recordOf, recordsOf, flat}
-use Rattle.automaton.specs.Placing.{Memory, Placed, full, room}
-use Rattle.automaton.specs.Placed.{memory}
+use Rattle.automaton.specs.inner.Placing.{Memory, Placement, slotless, slotted}
+use Rattle.automaton.specs.laws.MetPlaced.{holding}
 use Rattle.machine.specs.Box.{boxOf, slotsIn, statesOf, recordsIn}
-use Rattle.machine.specs.Carried.{whole}
-use Rattle.builder.specs.Outcome.{Left, cleared, tableWords, scratchWords, refused, noRoom, placed, accepted, outcomeBy, outcome, Answered}
-use Rattle.builder.specs.Memory.{recordAt, recordsAt, memoryOf, outOf}
-use Rattle.builder.specs.Placed.{length-states}
-use Rattle.builder.specs.Promises.{Grown, AfterKept}
-use Rattle.builder.specs.declared.Room.{Room}
-use Rattle.builder.specs.declared.Room.the-variants as R
+use Rattle.machine.specs.laws.Carried.{whole}
+use Rattle.builder.specs.Outcome.{Left, tableWords, scratchWords, refused, noRoom, placed, accepted, outcomeBy, outcome, Answered}
+use Rattle.builder.specs.inner.Memory.{recordsAt, memoryOf, outOf}
+use Rattle.builder.specs.laws.WaysPlaced.{length-states}
+use Rattle.builder.specs.inner.Promises.{Grown, AfterKept}
+use Rattle.builder.specs.declared.Extent.{Extent}
+use Rattle.builder.specs.declared.Extent.the-variants as R
 use Rattle.builder.specs.declared.Built.{Built}
 use Rattle.builder.specs.declared.Built.the-variants as B
 
@@ -57,29 +58,29 @@ pub record Startable (n slots : ℕ) (ranks l t s : List ℕ) : Type 0 where
   pub scratched : slotWords * slots ≤ length s
 
 -- The words left by the start of the list fs and all that follows from it.
-pub record Started (n slots : ℕ) (ranks : List ℕ) (fs : List Filter) (t s : List ℕ) (r : Room) (t' s' : List ℕ) : Type 0 where
+pub record Started (n slots : ℕ) (ranks : List ℕ) (fs : List Filter) (t s : List ℕ) (r : Extent) (t' s' : List ℕ) : Type 0 where
   pub comes : outOf n ranks r t' s' ≡ whole n ranks fs slots
   pub grows : Grown 0 slots r
   pub after : AfterKept r t t'
   pub behind : drop (recordWords * slots) t' ≡ drop (recordWords * slots) t
   pub beyond : drop (slotWords * slots) s' ≡ drop (slotWords * slots) s
 
-room≢full : {M : Machine} {m : Memory M} → _≡_ {A = Placed M} (room m) full → ⊥
-room≢full e = let z : _≡_ {A = ℕ} 0 1 = cc in omega arith
+slotted≢slotless : {M : Machine} {m : Memory M} → _≡_ {A = Placement M} (slotted m) slotless → ⊥
+slotted≢slotless e = let z : _≡_ {A = ℕ} 0 1 = cc in omega arith
 
 module _ (n : ℕ) (ranks : List ℕ) (fs : List Filter) (t s t' s' : List ℕ) where
   -- All states found a slot: the records are those of the states, in the order of their numbers.
   module _ (u : ℕ) (came : Started n (slotsOf t) ranks fs t s (R.Used u) t' s') where
     memory-is : (b : Bool) → leb (length (statesOf fs)) (slotsOf t) ≡ b
-        → (b ≡ true) × (memoryOf n ranks u t' s' ≡ memory (map written (statesOf fs)) (map (recordOf (boxOf fs) (statesOf fs)) (statesOf fs)))
+        → (b ≡ true) × (memoryOf n ranks u t' s' ≡ holding (map written (statesOf fs)) (map (recordOf (boxOf fs) (statesOf fs)) (statesOf fs)))
     unfolding outOf
     memory-is true e =
-        let m = came .comes ∙ ap (λ (c : Bool). cond c (room (memory (map written (statesOf fs)) (map (recordOf (boxOf fs) (statesOf fs)) (statesOf fs)))) full) e in
+        let m = came .comes ∙ ap (λ (c : Bool). cond c (slotted (holding (map written (statesOf fs)) (map (recordOf (boxOf fs) (statesOf fs)) (statesOf fs)))) slotless) e in
         (refl, cc)
     memory-is false e =
-        absurd (room≢full (came .comes ∙ ap (λ (c : Bool). cond c (room (memory (map written (statesOf fs)) (map (recordOf (boxOf fs) (statesOf fs)) (statesOf fs)))) full) e))
+        absurd (slotted≢slotless (came .comes ∙ ap (λ (c : Bool). cond c (slotted (holding (map written (statesOf fs)) (map (recordOf (boxOf fs) (statesOf fs)) (statesOf fs)))) slotless) e))
 
-    placed-memory : memoryOf n ranks u t' s' ≡ memory (map written (statesOf fs)) (map (recordOf (boxOf fs) (statesOf fs)) (statesOf fs))
+    placed-memory : memoryOf n ranks u t' s' ≡ holding (map written (statesOf fs)) (map (recordOf (boxOf fs) (statesOf fs)) (statesOf fs))
     placed-memory = memory-is (leb (length (statesOf fs)) (slotsOf t)) refl .1
 
     fits : length (statesOf fs) ≤ slotsOf t
@@ -109,7 +110,7 @@ module _ (n : ℕ) (ranks : List ℕ) (fs : List Filter) (t s t' s' : List ℕ) 
         ∙ ap (λ (l : List ℕ). recordsIn fs ++ l) (came .after)
         ∙ ap (λ (k : ℕ). recordsIn fs ++ drop k t) (sym (front-long h))
 
-  cleared-scratch : (r : Room) → Started n (slotsOf t) ranks fs t s r t' s' → cleared (slotWords * slotsOf t) s' ≡ cleared (scratchWords t) s
+  cleared-scratch : (r : Extent) → Started n (slotsOf t) ranks fs t s r t' s' → cleared (slotWords * slotsOf t) s' ≡ cleared (scratchWords t) s
   unfolding cleared scratchWords
   cleared-scratch r came = ap (λ (l : List ℕ). replicate (slotWords * slotsOf t) 0 ++ l) (came .beyond)
 
@@ -117,13 +118,13 @@ module _ (n : ℕ) (ranks : List ℕ) (fs : List Filter) (t s t' s' : List ℕ) 
   unfolding scratchWords
   enough h = le-ltb (length s) (slotWords * slotsOf t) h
 
-  pub built-states : (u : ℕ) (r : Room) → r ≡ R.Used u → Started n (slotsOf t) ranks fs t s r t' s'
+  pub built-states : (u : ℕ) (r : Extent) → r ≡ R.Used u → Started n (slotsOf t) ranks fs t s r t' s'
       → slotWords * slotsOf t ≤ length s → recordWords * slotsOf t ≤ length t'
       → Answered (accepted fs t s) (B.States u) t' (cleared (slotWords * slotsOf t) s')
   unfolding accepted placed
   built-states u r e came₀ hs ht =
       let came : Started n (slotsOf t) ranks fs t s (R.Used u) t' s' =
-      subst (λ (x : Room). Started n (slotsOf t) ranks fs t s x t' s') e came₀ in
+      subst (λ (x : Extent). Started n (slotsOf t) ranks fs t s x t' s') e came₀ in
       let same : accepted fs t s ≡ placed fs t s = rw (enough hs, le-ltb (slotsOf t) (length (statesOf fs)) (fits u came)) in
       subst (λ (l : Left). Answered l (B.States u) t' (cleared (slotWords * slotsOf t) s')) (sym same)
       (record {
@@ -132,29 +133,29 @@ module _ (n : ℕ) (ranks : List ℕ) (fs : List Filter) (t s t' s' : List ℕ) 
         scratch = cleared-scratch (R.Used u) came;
       })
 
-  cleared-table : Started n (slotsOf t) ranks fs t s R.Full t' s' → cleared (recordWords * slotsOf t) t' ≡ cleared (tableWords t) t
+  cleared-table : Started n (slotsOf t) ranks fs t s R.Slotless t' s' → cleared (recordWords * slotsOf t) t' ≡ cleared (tableWords t) t
   unfolding cleared tableWords
   cleared-table came = ap (λ (l : List ℕ). replicate (recordWords * slotsOf t) 0 ++ l) (came .behind)
 
-  fuller : (b : Bool) → leb (length (statesOf fs)) (slotsOf t) ≡ b → Started n (slotsOf t) ranks fs t s R.Full t' s' → slotsOf t < length (statesOf fs)
+  fuller : (b : Bool) → leb (length (statesOf fs)) (slotsOf t) ≡ b → Started n (slotsOf t) ranks fs t s R.Slotless t' s' → slotsOf t < length (statesOf fs)
   unfolding outOf
   fuller true q came =
-      absurd (room≢full (sym (came .comes ∙ ap (λ (c : Bool). cond c (room (memory (map written (statesOf fs)) (map (recordOf (boxOf fs) (statesOf fs)) (statesOf fs)))) full) q)))
+      absurd (slotted≢slotless (sym (came .comes ∙ ap (λ (c : Bool). cond c (slotted (holding (map written (statesOf fs)) (map (recordOf (boxOf fs) (statesOf fs)) (statesOf fs)))) slotless) q)))
   fuller false q came = leb-false (length (statesOf fs)) (slotsOf t) q
 
-  pub built-full : (r : Room) → r ≡ R.Full → Started n (slotsOf t) ranks fs t s r t' s'
+  pub built-slotless : (r : Extent) → r ≡ R.Slotless → Started n (slotsOf t) ranks fs t s r t' s'
       → slotWords * slotsOf t ≤ length s
       → Answered (accepted fs t s) (B.Refused 11 0) (cleared (recordWords * slotsOf t) t') (cleared (slotWords * slotsOf t) s')
   unfolding accepted noRoom
-  built-full r e came₀ hs =
-      let came : Started n (slotsOf t) ranks fs t s R.Full t' s' =
-      subst (λ (x : Room). Started n (slotsOf t) ranks fs t s x t' s') e came₀ in
+  built-slotless r e came₀ hs =
+      let came : Started n (slotsOf t) ranks fs t s R.Slotless t' s' =
+      subst (λ (x : Extent). Started n (slotsOf t) ranks fs t s x t' s') e came₀ in
       let same : accepted fs t s ≡ noRoom t s = rw (enough hs, lt-ltb (slotsOf t) (length (statesOf fs)) (fuller (leb (length (statesOf fs)) (slotsOf t)) refl came)) in
       subst (λ (l : Left). Answered l (B.Refused 11 0) (cleared (recordWords * slotsOf t) t') (cleared (slotWords * slotsOf t) s')) (sym same)
       (record {
         answer = refl;
         table = cleared-table came;
-        scratch = cleared-scratch R.Full came;
+        scratch = cleared-scratch R.Slotless came;
       })
 
 -- The outcome goes by what reading the list comes to.

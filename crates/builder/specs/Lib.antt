@@ -1,9 +1,5 @@
 pub mod Outcome
-pub mod Memory
-pub mod Promises
-pub mod MemoryLaws
-pub mod Placed
 pub mod Building
-pub mod Starting
-pub mod Finished
 pub mod Tight
+pub mod inner
+pub mod laws

@@ -2,19 +2,19 @@
 --   Shown           whether it was built (1 built, 0 refused), the refusal's number or 0, the number of states or the filter's number
 --   shown b         document 01's numbers for each case of the enum Built
 --   Left            the answer, every word of the table and every word of the scratch afterwards
---   cleared n ws    the first n words made 0
 --   Answered        an answer and the words afterwards are those of an outcome
 --   outcome l t s   what building the list l in the table t with the scratch s comes to
-use Prim.Native.Nat.{ℕ, _*_, _+_}
+use Prim.Native.Nat.{ℕ, _*_}
 use mathlib.Core.Path.{_≡_}
 use mathlib.Core.Bool.{cond}
 use mathlib.Core.List.{List, _++_}
 use lib.Dec.{ltb}
-use lib.ListN.{length, drop, replicate}
+use lib.ListN.{length, drop}
 use Rattle.lists.specs.Filters.{Filter, filtersOf}
 use Rattle.lists.specs.Refusals.{listed}
 use Rattle.lists.specs.declared.Listed.{Listed}
 use Rattle.lists.specs.declared.Listed.the-variants as L
+use Rattle.words.specs.Lent.{cleared}
 use Rattle.tables.specs.Tables.{recordWords, slotsOf}
 use Rattle.slots.specs.Words.{slotWords}
 use Rattle.machine.specs.Box.{statesOf, recordsIn}
@@ -34,9 +34,6 @@ pub record Left : Type 0 where
   pub answer : Shown
   pub table : List ℕ
   pub scratch : List ℕ
-
-unfoldable pub cleared : ℕ → List ℕ → List ℕ
-cleared n ws = replicate n 0 ++ drop n ws
 
 -- The words that the slots of the table have, and that they ask of the scratch.
 unfoldable pub tableWords : List ℕ → ℕ

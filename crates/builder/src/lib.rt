@@ -1,5 +1,8 @@
 // A list is compiled into a lent table (document 01, "States and the table" and "Refusal numbers").
 use lists::Listed;
+use lists::MAX_FILTERS;
+use slots::SLOT_WORDS;
+use tables::RECORD_WORDS;
 ghost use mathlib.Core.Path.{_≡_};
 ghost use Prim.Native.Nat.{ℕ};
 ghost use Rattle.lists.specs.Filters.{filtersOf};
@@ -10,7 +13,6 @@ ghost use Rattle.builder.specs.Outcome.{Answered, accepted, outcome};
 mod meet;
 mod place;
 mod start;
-mod words;
 
 // The number of states, or a refusal's number with the filter's number or 0.
 pub enum Built {
@@ -19,9 +21,9 @@ pub enum Built {
 }
 
 // What placing states comes to: so many slots used, or a new state that found none.
-pub enum Room {
+pub enum Extent {
     Used(usize),
-    Full,
+    Slotless,
 }
 
 // Where a state stands among those met.
@@ -34,7 +36,7 @@ pub enum Found {
 pub enum Met {
     Old(usize),
     New,
-    Full,
+    Slotless,
 }
 
 // Compiles an accepted list of n filters.
@@ -43,17 +45,17 @@ fn build_accepted(list: &[u32], n: usize, table: &mut [u32], scratch: &mut [u32]
     ensures { λ r. ⌜ Answered (accepted (filtersOf (now (list .entry))) (now (table .entry)) (now (scratch .entry))) r (now (table .exit)) (now (scratch .exit)) ⌝ }
 {
     let slots = tables::slots_of(table.len());
-    if scratch.len() < 1024 * slots {
+    if scratch.len() < SLOT_WORDS * slots {
         return Built::Refused(10, 0);
     }
-    let mut ranks = [0u32; 32];
+    let mut ranks = [0u32; MAX_FILTERS];
     lists::rank_sets(list, &mut ranks);
-    let room = start::place_start(&ranks, list, n, slots, table, scratch);
-    words::clear(scratch, 1024 * slots);
-    match room {
-        Room::Used(states) => Built::States(states as u32),
-        Room::Full => {
-            words::clear(table, 9 * slots);
+    let extent = start::place_start(&ranks, list, n, slots, table, scratch);
+    words::clear(scratch, SLOT_WORDS * slots);
+    match extent {
+        Extent::Used(states) => Built::States(states as u32),
+        Extent::Slotless => {
+            words::clear(table, RECORD_WORDS * slots);
             Built::Refused(11, 0)
         }
     }

@@ -2,25 +2,28 @@
 use crate::Found;
 use crate::Met;
 use residue::Outcome;
+use slots::FILTER_WORDS;
+use slots::SLOT_WORDS;
+use tables::RECORD_WORDS;
 ghost use mathlib.Core.Path.{_≡_};
 ghost use mathlib.Core.List.{List};
 ghost use Prim.Native.Nat.{ℕ, _*_, _≤_};
 ghost use lib.ListN.{length};
 ghost use Rattle.slots.specs.Words.{filterSlot};
-ghost use Rattle.slots.specs.Slots.{stepWords, asksIn};
-ghost use Rattle.slots.specs.Steps.{Stepped};
-ghost use Rattle.builder.specs.Memory.{slotAt, statesIn, foundIn};
-ghost use Rattle.builder.specs.Promises.{Ready, Held, Search, Store, Stored, Meeting};
+ghost use Rattle.slots.specs.inner.Slots.{stepWords, asksIn};
+ghost use Rattle.slots.specs.inner.Steps.{Stepped};
+ghost use Rattle.builder.specs.inner.Memory.{slotAt, statesIn, foundIn};
+ghost use Rattle.builder.specs.inner.Promises.{Ready, Held, Search, Store, Stored, Meeting};
 
 // Where the candidate stands among the states of the slots used, if it does.
 fn find(scratch: &[u32], n: usize, used: usize, candidate: &[u32]) -> Found
     requires { ⌜ Search n used (now scratch) (now candidate) ⌝ }
     ensures { λ r. ⌜ ((ranks : List ℕ) → r ≡ foundIn n ranks (statesIn n used (now (scratch .entry))) (now (candidate .entry))) ⌝ }
 {
-    let width = 32 * n;
+    let width = FILTER_WORDS * n;
     let mut i: usize = 0;
     while i < used {
-        let at = 1024 * i;
+        let at = SLOT_WORDS * i;
         if slots::same(&scratch[at..at + width], candidate) {
             return Found::At(i);
         }
@@ -42,8 +45,19 @@ pub fn store(
     requires { ⌜ Store n slots (now ranks) used (now table) (now scratch) (now candidate) ⌝ }
     ensures { λ _. ⌜ Stored n slots (now (ranks .entry)) used (now (table .entry)) (now (scratch .entry)) (now (candidate .entry)) (now (table .exit)) (now (scratch .exit)) ⌝ }
 {
-    crate::words::copy_into(&mut scratch[1024 * used..], candidate);
-    slots::write_record(candidate, n, ranks, &mut table[9 * used..]);
+    words::copy_into(&mut scratch[SLOT_WORDS * used..], candidate);
+    let asked = slots::question_of(candidate, n);
+    let sure = slots::sure_set(candidate, n, ranks);
+    let out = slots::out_set(candidate, n);
+    tables::write_fresh(
+        &mut table[RECORD_WORDS * used..],
+        asked.kind,
+        asked.field,
+        asked.mask,
+        asked.value,
+        sure,
+        out,
+    );
 }
 
 // The state after a state's own question came to an outcome.
@@ -72,8 +86,8 @@ pub fn meet(
     requires { ⌜ filterSlot * n ≤ length (now words) ⌝ }
     ensures { λ r. ⌜ Meeting n slots (now (ranks .entry)) used (now (table .entry)) (now (scratch .entry)) (stepWords n (now (ranks .entry)) o (slotAt n (now (scratch .entry)) at)) r (now (table .exit)) (now (scratch .exit)) ⌝ }
 {
-    let width = 32 * n;
-    let from = 1024 * at;
+    let width = FILTER_WORDS * n;
+    let from = SLOT_WORDS * at;
     step_into(
         &scratch[from..from + width],
         &mut words[..width],
@@ -86,7 +100,7 @@ pub fn meet(
         Found::At(number) => Met::Old(number),
         Found::Nothing => {
             if used == slots {
-                return Met::Full;
+                return Met::Slotless;
             }
             store(ranks, n, slots, table, scratch, candidate, used);
             Met::New
@@ -99,7 +113,7 @@ pub fn asks(scratch: &[u32], n: usize, at: usize) -> bool
     requires { ⌜ Held n at (now scratch) ⌝ }
     ensures { λ r. ⌜ r ≡ asksIn n (slotAt n (now (scratch .entry)) at) ⌝ }
 {
-    let from = 1024 * at;
-    let question = slots::question_of(&scratch[from..from + 32 * n], n);
+    let from = SLOT_WORDS * at;
+    let question = slots::question_of(&scratch[from..from + FILTER_WORDS * n], n);
     question.kind != 0
 }

@@ -1,7 +1,9 @@
 // The start of a list is placed as state 0, and from it every state that follows.
-use crate::Room;
+use crate::Extent;
 use crate::meet::store;
 use crate::place::place_state;
+use slots::FILTER_WORDS;
+use slots::SLOT_WORDS;
 ghost use Rattle.lists.specs.Filters.{filtersOf};
 ghost use Rattle.builder.specs.Building.{Started, Startable};
 
@@ -13,15 +15,15 @@ pub fn place_start(
     slots: usize,
     table: &mut [u32],
     scratch: &mut [u32],
-) -> Room
+) -> Extent
     requires { ⌜ Startable n slots (now ranks) (now list) (now table) (now scratch) ⌝ }
     ensures { λ r. ⌜ Started n slots (now (ranks .entry)) (filtersOf (now (list .entry))) (now (table .entry)) (now (scratch .entry)) r (now (table .exit)) (now (scratch .exit)) ⌝ }
 {
     if slots == 0 {
-        return Room::Full;
+        return Extent::Slotless;
     }
-    let width = 32 * n;
-    let mut words = [0u32; 1024];
+    let width = FILTER_WORDS * n;
+    let mut words = [0u32; SLOT_WORDS];
     slots::start_into(list, &mut words[..width], n, ranks);
     store(ranks, n, slots, table, scratch, &words[..width], 0);
     place_state(ranks, n, slots, table, scratch, &mut words, 0, 1)

@@ -1,20 +1,19 @@
 -- The records of the states that building a text answers lie within the table lent.
 --   states-fit       the table has room for the records of the states that are answered
 use Prim.Native.Nat.{ℕ, _*_, _≤_}
-use mathlib.Core.Path.{_≡_, refl, sym, ap, _∙_}
-use mathlib.Core.Bool.{Bool, true, false, _||_}
+use mathlib.Core.Path.{_≡_, sym, ap, _∙_}
 use mathlib.Core.List.{List}
 use native.Mathlib.Omega.{arith}
 use lib.Dec.{ltb}
 use lib.ListN.{length}
 use borrow.Author.Tests.{ltb-false, le-ltb}
-use Rattle.residue.specs.Choice.{by-cond}
+use Rattle.residue.specs.laws.Choice.{by-cond, neither}
 use Rattle.lists.specs.Filters.{filtersOf}
 use Rattle.lists.specs.Refusals.{listed}
 use Rattle.lists.specs.declared.Listed.{Listed}
 use Rattle.lists.specs.declared.Listed.the-variants as L
 use Rattle.tables.specs.Tables.{recordWords, maxSlots, slotsOf}
-use Rattle.tables.specs.Laws.{slots-least}
+use Rattle.tables.specs.laws.Least.{slots-least}
 use Rattle.machine.specs.Box.{statesOf}
 use Rattle.builder.specs.Outcome.{Shown, shown, Left, scratchWords, refused, noRoom, placed, accepted, outcomeBy, outcome}
 use Rattle.text.specs.Text as T
@@ -45,13 +44,8 @@ unfolding textOutcome refused outcome
 text-states x t s n =
     by-cond (Few t n) (T.accepted x) (λ _. states-by (listed (T.wordsOf x)) (T.wordsOf x) t s n) (λ _ e. absurd (omega (arith, built-is _ _ e)))
 
-neither : (a b : Bool) → (a || b) ≡ false → b ≡ false
-neither true true e = e
-neither true false e = refl
-neither false b e = e
-
 pub states-fit : (x t s : List ℕ) (r : Built) (n : ℕ) → shown r ≡ textOutcome x t s .answer → r ≡ B.States n → recordWords * n ≤ length t
 states-fit x t s r n p e =
     let few = text-states x t s n (sym p ∙ ap shown e) in
     let within = sym (slots-least t n) ∙ le-ltb (slotsOf t) n few in
-    ltb-false (length t) (recordWords * n) (neither (ltb maxSlots n) (ltb (length t) (recordWords * n)) within)
+    ltb-false (length t) (recordWords * n) (neither (ltb maxSlots n) (ltb (length t) (recordWords * n)) within .1)

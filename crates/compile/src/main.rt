@@ -5,6 +5,11 @@ ghost use Rattle.tables.specs.Tables.{recordWords};
 use builder::Built;
 use libc::STDIN_FILENO;
 use libc::STDOUT_FILENO;
+use slots::SLOT_WORDS;
+use tables::RECORD_WORDS;
+
+// The table that is lent has so many slots.
+const SLOTS: usize = 16;
 
 fn print_word(word: u32) {
     io::write_all(STDOUT_FILENO, b" ");
@@ -27,9 +32,9 @@ fn print_states(table: &[u32], states: usize)
 {
     let mut n = 0;
     while n < states {
-        let at = 9 * n;
+        let at = RECORD_WORDS * n;
         io::print_decimal(STDOUT_FILENO, n as u64);
-        print_words(&table[at..at + 9]);
+        print_words(&table[at..at + RECORD_WORDS]);
         n += 1;
     }
 }
@@ -39,10 +44,9 @@ fn print_refusal(number: u32, filter: u32) {
     print_words(&[number, filter]);
 }
 
-// Sixteen slots: 9 words of table and 1,024 words of scratch for each.
 fn compile(text: &[u8]) {
-    let mut table = [0u32; 144];
-    let mut scratch = [0u32; 16384];
+    let mut table = [0u32; SLOTS * RECORD_WORDS];
+    let mut scratch = [0u32; SLOTS * SLOT_WORDS];
     match text_builder::build_text(text, &mut table, &mut scratch) {
         Built::States(states) => {
             io::write_all(STDOUT_FILENO, b"states");

@@ -21,11 +21,15 @@ use Rattle.residue.specs.declared.Fact.{Fact}
 use Rattle.residue.specs.declared.Fact.the-variants.{Known}
 use Rattle.residue.specs.declared.Residue.{Residue}
 use Rattle.residue.specs.declared.Residue.the-variants.{True, False, Left}
+use Rattle.fields.specs.Bytes as Y
+use Rattle.fields.specs.Puts as P
+use Rattle.fields.specs.Ethernet as N
+use Rattle.fields.specs.Ipv4 as I
+use Rattle.fields.specs.Transport as X
 use Rattle.fields.specs.Fields as F
 use Rattle.sets.specs.Sets as S
 use Rattle.lists.specs.Filters as L
 use Rattle.lists.specs.Ranks as R
-use Rattle.states.specs.Paths.{matchSet}
 use Rattle.tables.specs.Tables as B
 use Rattle.machine.specs.Box.{recordsIn}
 use Rattle.machine.specs.Cases.{echoIn, echo, echoTable, echo-records}
@@ -83,16 +87,18 @@ unfolding
     allRight markedCases gives sameResidue E.sameTest E.equalOf E.differsOf E.atMostOf E.atLeastOf
     D.residueBy D.fromEqual D.fromMasked D.reducedEqual D.reducedDiffers D.fromDiffers D.fromAtMost D.fromAtLeast D.covers D.outside D.settled
     answers sameShown echoFrame echoTable W.walk W.walkFrom W.arrive W.onward W.damaged W.nextOf W.nextBy B.slotsOf B.wordOf L.testOf T.holds
-    F.field F.readings F.two F.four F.ethernet F.internet F.version F.headerLength F.totalLength F.protocol F.transport F.carries
+    F.field F.readings F.puts P.putAll Y.two Y.four N.ethernet I.internet I.internetPuts I.version I.headerLength I.totalLength I.protocol I.transport I.transportStart
+    I.transportEnd X.transportPuts
 marked-cases zero = rw echo-records
 marked-cases (suc more) =
     let three : 2 + suc more ≡ suc (suc (suc more)) = omega arith in
     rw (three, echo-records)
 
 -- In one group with the levels 3, 2, 1 the frame matches filter 0 alone, with 1, 2, 3 filter 2 alone.
-pub one-group : (matchSet (L.filtersOf (echoIn 1 3 1 2 1 1)) (F.field echoFrame 0) ≡ 1) × (matchSet (L.filtersOf (echoIn 1 1 1 2 1 3)) (F.field echoFrame 0) ≡ 4)
+pub one-group : (R.matchSet (L.filtersOf (echoIn 1 3 1 2 1 1)) (F.field echoFrame 0) ≡ 1) × (R.matchSet (L.filtersOf (echoIn 1 1 1 2 1 3)) (F.field echoFrame 0) ≡ 4)
 unfolding
-    matchSet echoFrame echoIn L.filtersOf L.filtersFrom L.filterOf L.itemsOf L.itemOf L.testOf
+    R.matchSet echoFrame echoIn L.filtersOf L.filtersFrom L.filterOf L.itemsOf L.itemOf L.testOf
     R.above R.outranks R.matches R.fires R.allHold T.holdsOf T.holds S.setOf S.tally S.some
-    F.field F.readings F.two F.four F.ethernet F.internet F.version F.headerLength F.totalLength F.protocol F.transport F.carries
+    F.field F.readings F.puts P.putAll Y.two Y.four N.ethernet I.internet I.internetPuts I.version I.headerLength I.totalLength I.protocol I.transport I.transportStart
+    I.transportEnd X.transportPuts
 one-group = (refl, refl)

@@ -17,22 +17,23 @@ use Rattle.sets.specs.Sets.{member}
 use Rattle.lists.specs.Filters.{Item, Filter, filtersOf, testsIn}
 use Rattle.lists.specs.Ranks.{matches}
 use Rattle.lists.specs.Refusals.{listed}
-use Rattle.lists.specs.Laws.{accepted-well}
+use Rattle.lists.specs.laws.Accepted.{accepted-well}
 use Rattle.lists.specs.declared.Listed.the-variants.{Accepted}
 use Rattle.states.specs.States.{State, start, ask, questionOf, step, isOpen}
 use Rattle.states.specs.Runs.{run, askedIn, follow}
-use Rattle.states.specs.Laws.{asksAll, path-tests}
+use Rattle.states.specs.Runs.{asksAll}
+use Rattle.states.specs.laws.Measure.{path-tests}
 use Rattle.automaton.specs.Machines.{meets}
 use Rattle.automaton.specs.Lawful.{Reached, Distinct}
 use Rattle.tables.specs.Tables.{slotsOf}
 use Rattle.machine.specs.Box.{boxOf, statesOf}
-use Rattle.machine.specs.Laws.{states-distinct, states-reached, reached-states}
+use Rattle.machine.specs.laws.Lawful.{states-distinct, states-reached, reached-states}
 use Rattle.matcher.specs.Walk.{Shown, walk}
 use Rattle.builder.specs.Outcome.{Left, scratchWords, outcome}
-use Rattle.labels.specs.Labels.{shownAt}
-use Rattle.demands.specs.Builds.{build-full, build-fits}
-use Rattle.demands.specs.Settled.{Legal, exact, all-done, all-matches, open-so, sure-so, out-so, sure-kept, out-kept, none-left, asked-few}
-use Rattle.demands.specs.Paths.{once}
+use Rattle.labels.specs.Labels.{shownAt, Legal}
+use Rattle.demands.specs.laws.Builds.{build-full, build-fits}
+use Rattle.demands.specs.Settled.{exact, all-done, all-matches, open-so, sure-so, out-so, sure-kept, out-kept, none-left, asked-few}
+use Rattle.demands.specs.laws.Paths.{once}
 
 module _ (l t s : List ℕ) where
   abbrev fs : List Filter

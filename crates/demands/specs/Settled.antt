@@ -15,16 +15,18 @@ use Rattle.lists.specs.Filters.{Filter, filtersOf, testsIn}
 use Rattle.lists.specs.Ranks.{matches}
 use Rattle.states.specs.States.{start, isOpen}
 use Rattle.states.specs.Runs.{askedIn}
-use Rattle.states.specs.Laws.{InWidths, Picked, question-left, after}
+use Rattle.states.specs.laws.Truth.{InWidths}
+use Rattle.states.specs.Choices.{Picked}
+use Rattle.states.specs.laws.Keeps.{question-left}
+use Rattle.states.specs.laws.Paths.{after}
 use Rattle.tables.specs.Tables.{recordWords, maxSlots, slotsOf}
 use Rattle.machine.specs.Box.{recordsIn}
 use Rattle.matcher.specs.Walk.{Shown, walk}
 use Rattle.builder.specs.Outcome.{Left, placed, outcome}
-use Rattle.labels.specs.Labels.{LabelledBy, shownAt}
-use Rattle.labels.specs.Truths.{Shows, open-member, legal-widths, labelled-shows, labelled-keeps, picked-run, shows-done, shows-matches, shows-settled, shows-sure, shows-out, shows-asked}
-use Rattle.demands.specs.Labelled.{built-labelled}
-use Rattle.demands.specs.Builds.{Success, build-success}
-pub use Rattle.labels.specs.Labels.{Legal}
+use Rattle.labels.specs.Labels.{LabelledBy, shownAt, Legal}
+use Rattle.labels.specs.laws.Truths.{Shows, open-member, legal-widths, labelled-shows, labelled-keeps, picked-run, shows-done, shows-matches, shows-settled, shows-sure, shows-out, shows-asked}
+use Rattle.demands.specs.laws.Labelled.{built-labelled}
+use Rattle.demands.specs.laws.Builds.{Success, build-success}
 
 abbrev pub walkOver : Left → List ℕ → ℕ → ℕ → Shown
 walkOver b f p a = walk f p (b .table) (b .answer .number) a

@@ -1,7 +1,7 @@
 -- How tight the promises are (document 01, the section of that name): two outcomes that one promise allows are equal.
 use Prim.Native.Nat.{ℕ, zero, suc, _<_}
 use native.Mathlib.Omega.{arith}
-use mathlib.Core.Path.{_≡_, refl, sym, ap, ap₂, _∙_}
+use mathlib.Core.Path.{_≡_, refl, sym, _∙_}
 use mathlib.Core.List.{List}
 use Rattle.fields.specs.Header.{Header}
 use Rattle.builder.specs.declared.Built.{Built}
@@ -9,7 +9,7 @@ use Rattle.builder.specs.Outcome as O
 use Rattle.builder.specs.Tight.{answered-one}
 use Rattle.matcher.specs.declared.Answer.{Answer}
 use Rattle.matcher.specs.Walk as W
-use Rattle.matcher.specs.Laws as M
+use Rattle.matcher.specs.laws.Walks as M
 use Rattle.demands.specs.Whole.{Whole, Rooms}
 
 -- An answer that equals a definition: `check`, `rank_sets`, `read_field`, `residue_of` and all whose promise is one equation.

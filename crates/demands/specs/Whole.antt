@@ -9,8 +9,9 @@ use mathlib.Core.Bool.{true, false, not, _&&_}
 use mathlib.Core.Logic.{_⊎_}
 use mathlib.Core.List.{List}
 use lib.ListN.{length}
+use Rattle.fields.specs.Ethernet.{maxFrame}
 use Rattle.fields.specs.Fields.{field}
-use Rattle.fields.specs.Bounds.{Bytes}
+use Rattle.fields.specs.Bytes.{Bytes}
 use Rattle.sets.specs.Sets.{member}
 use Rattle.lists.specs.Filters.{Filter, filtersOf, testsIn}
 use Rattle.lists.specs.Ranks.{matches}
@@ -21,9 +22,9 @@ use Rattle.builder.specs.Outcome as O
 use Rattle.matcher.specs.declared.Answer.{Answer}
 use Rattle.matcher.specs.declared.Answer.the-variants as A
 use Rattle.matcher.specs.Walk as W
-use Rattle.labels.specs.Labels.{shownAt}
-use Rattle.demands.specs.Builds.{build-success}
-use Rattle.demands.specs.Settled.{Legal, walked, exact, all-done, all-matches, open-so, sure-so, out-so, sure-kept, out-kept, none-left, asked-few}
+use Rattle.labels.specs.Labels.{shownAt, Legal}
+use Rattle.demands.specs.laws.Builds.{build-success}
+use Rattle.demands.specs.Settled.{walked, exact, all-done, all-matches, open-so, sure-so, out-so, sure-kept, out-kept, none-left, asked-few}
 
 -- The words that building leaves: classifying changes none.
 pub record Rooms (b : O.Left) (t s : List ℕ) : Type 0 where
@@ -55,7 +56,7 @@ module _ (l t s f : List ℕ) (p a : ℕ) where
   pub record Whole (x : Answer) : Type 0 where
     pub unbuilt : 0 < O.outcome l t s .answer .refusal → W.shown x ≡ W.refused (O.outcome l t s .answer .refusal)
     pub walks : O.outcome l t s .answer .refusal ≡ 0 → W.shown x ≡ walked l t s f p a
-    pub demands : O.outcome l t s .answer .refusal ≡ 0 → length f ≤ W.maxFrame → Told (W.shown x)
+    pub demands : O.outcome l t s .answer .refusal ≡ 0 → length f ≤ maxFrame → Told (W.shown x)
 
 module _ (l t s f : List ℕ) (p a : ℕ) where
   abbrev answer : O.Shown
@@ -84,7 +85,7 @@ module _ (l t s f : List ℕ) (p a : ℕ) where
     built : 0 ≡ answer .refusal
     built = ap (λ (y : O.Shown). y .refusal) e
 
-    legal : length f ≤ W.maxFrame → Legal f p
+    legal : length f ≤ maxFrame → Legal f p
     legal short = record { short = short; bytes = bytes; port = port }
 
     all-told : answer .refusal ≡ 0 → Legal f p → Told l t s f p a (walked l t s f p a)

@@ -1,1 +1,4 @@
-pub mod Fills
+pub mod SmallWidths
+pub mod Filling
+pub mod Transports
+pub mod Headers

@@ -2,8 +2,12 @@
 // frame's bytes, the present set, and the fourteen fields, with - for an absent one. Box port 7 throughout.
 ghost use Prim.Native.Nat.{_≤_};
 ghost use lib.ListN.{length};
+use fields::FIELDS;
 use libc::STDOUT_FILENO;
 use residue::Reading;
+
+// One number more than there are fields: each line ends with its - too.
+const SHOWN: u32 = FIELDS as u32 + 1;
 
 fn print_reading(r: Reading) {
     match r {
@@ -21,16 +25,15 @@ fn print_number(n: u64) {
     io::print_decimal(STDOUT_FILENO, n);
 }
 
-// There is no field 14: each line ends with its - too.
 fn show(label: &[u8], frame: &[u8]) {
     io::write_all(STDOUT_FILENO, label);
     io::write_all(STDOUT_FILENO, b":");
     print_number(frame.len() as u64);
-    let mut values = [0u32; 14];
+    let mut values = [0u32; FIELDS];
     let present = fields::read_header(frame, 7, &mut values);
     print_number(present as u64);
     let mut i: u32 = 0;
-    while i < 15 {
+    while i < SHOWN {
         print_reading(fields::reading_at(present, &values, i));
         i += 1;
     }
@@ -183,7 +186,7 @@ fn long_cases() {
 fn show_full() {
     io::write_all(STDOUT_FILENO, b"full:");
     let mut i: u32 = 0;
-    while i < 15 {
+    while i < SHOWN {
         print_number(fields::full_of(i) as u64);
         i += 1;
     }

@@ -9,6 +9,9 @@ ghost use Rattle.filterbox.specs.Shown.{Numbers, Compiled, classified};
 use builder::Built;
 use matcher::Answer;
 
+// The words of a slot, as a C caller gets them.
+const SCRATCH_WORDS: u32 = slots::SLOT_WORDS as u32;
+
 // The refusal's number, 0 where the table was built; and the number of states, or the filter's number.
 #[repr(C)]
 pub struct FilterboxBuilt {
@@ -48,7 +51,7 @@ pub extern "C" fn filterbox_build(
 pub extern "C" fn filterbox_scratch_words() -> u32
     ensures { λ r. ⌜ r ≡ slotWords ⌝ }
 {
-    1024
+    SCRATCH_WORDS
 }
 
 // How a walk ended (0 refused, 1 done, 2 stopped), the refusal's number or 0, the sure set, the out set and the questions asked.

@@ -1,6 +1,4 @@
 -- Tables whose records can be given states of a list, each the record of its state, whichever of the remaining tests it asks (document 01, "States and the table", with the table's own questions in place of the first remaining test).
---   questionAt t n          the four words of record n's question
---   wayAt t n o             the next number that record n has at the outcome o
 --   FinalRecord t n s       record n is final: zeros in its first seven words, and no test remains in s
 --   AskingRecord May fs t m give n   record n asks what may be asked of its state, and its ways lead to records of the states stepped to
 --   LabelledBy May fs t m   the first m records of the table t are given states of the list fs; May says what may be asked of a state
@@ -13,25 +11,19 @@ use mathlib.Core.Logic.{_⊎_}
 use mathlib.Core.List.{List, [], _∷_}
 use lib.ListN.{length}
 use Rattle.residue.specs.declared.Outcome.{Outcome}
-use Rattle.residue.specs.declared.Outcome.the-variants.{Holds, Fails, Absent}
-use Rattle.fields.specs.Bounds.{Bytes}
-use Rattle.lists.specs.Accepted.{itemWords}
+use Rattle.residue.specs.declared.Outcome.the-variants.{Absent}
+use Rattle.fields.specs.Bytes.{Bytes}
+use Rattle.fields.specs.Ethernet.{maxFrame}
+use Rattle.lists.specs.Words.{itemWords}
 use Rattle.lists.specs.Filters.{Item, Filter}
 use Rattle.states.specs.States.{State, start, Question, nothing, ask, questionOf, stepBy, sureSet, outSet}
 use Rattle.states.specs.Choices.{Chosen}
-use Rattle.tables.specs.Tables.{slotsOf, wordOf, kindAt, fieldAt, maskAt, valueAt, holdsAt, failsAt, absentAt, sureAt, outAt}
-use Rattle.matcher.specs.Walk.{maxFrame, Shown, done, stopped}
-
-unfoldable pub questionAt : List ℕ → ℕ → List ℕ
-questionAt t n = wordOf t n kindAt ∷ wordOf t n fieldAt ∷ wordOf t n maskAt ∷ wordOf t n valueAt ∷ []
-
-unfoldable pub wayAt : List ℕ → ℕ → Outcome → ℕ
-wayAt t n Holds = wordOf t n holdsAt
-wayAt t n Fails = wordOf t n failsAt
-wayAt t n Absent = wordOf t n absentAt
+use Rattle.tables.specs.Tables.{slotsOf, wordOf, questionAt, wayAt, sureAt, outAt}
+use Rattle.matcher.specs.Walk.{Shown, done, stopped}
 
 pub record FinalRecord (t : List ℕ) (n : ℕ) (s : State) : Type 0 where
-  pub zeros : (j : ℕ) → j < sureAt → wordOf t n j ≡ 0
+  pub zeros : questionAt t n ≡ 0 ∷ 0 ∷ 0 ∷ 0 ∷ []
+  pub nowhere : (o : Outcome) → wayAt t n o ≡ 0
   pub none : questionOf s ≡ nothing
 
 pub record AskingRecord (May : Item → State → Type 0) (fs : List Filter) (t : List ℕ) (m : ℕ) (give : ℕ → State) (n : ℕ) : Type 0 where

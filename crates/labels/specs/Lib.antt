@@ -1,4 +1,2 @@
 pub mod Labels
-pub mod Walks
-pub mod Courses
-pub mod Truths
+pub mod laws

@@ -1,10 +1,10 @@
 -- Groups and levels read into two columns, and ranks worked out from the columns.
 --   filters-turn, filters-end    the filters from a place on: one and the rest; none
---   Reading                      what has been written and what is still to be read make the whole
---   reading-start, reading-turn, reading-end
+--   Partway                      what has been written and what is still to be read make the whole
+--   partway-start, partway-turn, partway-end
 --   ranks-agree                  the columns give the list's own ranks
 -- Assumes nothing.
-use Prim.Native.Nat.{ℕ, suc, _+_, _-_, _*_, _≤_, _<_}
+use Prim.Native.Nat.{ℕ, suc, _+_, _-_, _≤_, _<_}
 use mathlib.Core.Path.{_≡_, refl, sym, ap, ap₂, _∙_}
 use mathlib.Core.Bool.{Bool, true, false, cond, _&&_}
 use mathlib.Core.List.{List, [], _∷_, _++_, map, append-nil}
@@ -15,11 +15,13 @@ use lib.Dec.{ltb}
 use lib.ListN.{length, getD, take, drop, set, length-drop, length-set, drop-of-length-le, List·getD-map}
 use lib.Seq.{getD-drop, getD-take, drop-drop, take-suc-set, append-snoc}
 use borrow.Author.Tests.{ltb-true, ltb-false}
+use Rattle.residue.specs.laws.Choice.{first, second}
 use Rattle.sets.specs.Sets.{setOf, tally}
-use Rattle.sets.specs.Laws.{tally-ext, tally-more}
+use Rattle.sets.specs.laws.Members.{tally-ext, tally-more}
 use Rattle.lists.specs.Filters.{Filter, maxFilters, filterWords, filterOf, filtersFrom, filtersOf}
-use Rattle.lists.specs.Laws.{and-parts, filters-step, filters-none}
-use Rattle.lists.specs.Ranks.{noFilter, above, aboveBy, rankSetBy, rankSet, rankSets, Heads}
+use Rattle.lists.specs.laws.Walking.{filters-step, filters-none}
+use Rattle.lists.specs.Ranks.{noFilter, above, rankSet, rankSets}
+use Rattle.lists.specs.inner.Columns.{aboveBy, rankSetBy, Heads}
 
 abbrev pub groupIn : Filter → ℕ
 groupIn f = f .group
@@ -27,23 +29,22 @@ groupIn f = f .group
 abbrev pub levelIn : Filter → ℕ
 levelIn f = f .level
 
--- The place after the filter at a place.
-abbrev pub after : List ℕ → ℕ → ℕ
-after ws at = at + (3 + 4 * getD ws (at + 2) 0)
+-- The place behind the filter at a place.
+abbrev behind : List ℕ → ℕ → ℕ
+behind ws at = at + filterWords (drop at ws)
 
 pub filters-turn : (ws : List ℕ) (at n : ℕ) → n < maxFilters → at < length ws →
-    filtersFrom (maxFilters - n) (drop at ws) ≡ filterOf (drop at ws) ∷ filtersFrom (maxFilters - (n + 1)) (drop (after ws at) ws)
+    filtersFrom (maxFilters - n) (drop at ws) ≡ filterOf (drop at ws) ∷ filtersFrom (maxFilters - (n + 1)) (drop (behind ws at) ws)
 filters-turn ws at n h l =
     let z : maxFilters - n ≡ suc (maxFilters - (n + 1)) = omega arith in
     rw z
     (filters-step (maxFilters - (n + 1)) (drop at ws) (rw length-drop (omega arith)) ∙
-    rw (drop-drop (filterWords (drop at ws)) at ws, getD-drop at ws 2 0))
+    rw (drop-drop (filterWords (drop at ws)) at ws))
 
 -- The loop's test: there is room for a filter, and there are words.
 pub goes-on : (n at len : ℕ) → (ltb n maxFilters && ltb at len) ≡ true → (n < maxFilters) × (at < len)
 goes-on n at len e =
-    let p = and-parts (ltb n maxFilters) (ltb at len) e in
-    (ltb-true n maxFilters (p .0), ltb-true at len (p .1))
+    (ltb-true n maxFilters (first (ltb n maxFilters) (ltb at len) e), ltb-true at len (second (ltb n maxFilters) (ltb at len) e))
 
 pub filters-end : (ws : List ℕ) (at n : ℕ) → (ltb n maxFilters && ltb at (length ws)) ≡ false → filtersFrom (maxFilters - n) (drop at ws) ≡ []
 unfolding filtersFrom
@@ -60,14 +61,14 @@ abbrev pub column : (Filter → ℕ) → List ℕ → ℕ → ℕ → List ℕ �
 column p ws at n gs = take n gs ++ map p (filtersFrom (maxFilters - n) (drop at ws))
 
 column-turn : (p : Filter → ℕ) (ws gs : List ℕ) (at n : ℕ) → n < maxFilters → at < length ws → n < length gs →
-    column p ws (after ws at) (n + 1) (set gs n (p (filterOf (drop at ws)))) ≡ column p ws at n gs
+    column p ws (behind ws at) (n + 1) (set gs n (p (filterOf (drop at ws)))) ≡ column p ws at n gs
 column-turn p ws gs at n h l r =
     rw (filters-turn ws at n h l)
-    (ap (λ (k : ℕ). take k (set gs n (p (filterOf (drop at ws)))) ++ map p (filtersFrom (maxFilters - (n + 1)) (drop (after ws at) ws))) (add-one n) ∙
-    ap (λ (xs : List ℕ). xs ++ map p (filtersFrom (maxFilters - (n + 1)) (drop (after ws at) ws))) (take-suc-set gs n (p (filterOf (drop at ws))) r) ∙
-    append-snoc (take n gs) (p (filterOf (drop at ws))) (map p (filtersFrom (maxFilters - (n + 1)) (drop (after ws at) ws))))
+    (ap (λ (k : ℕ). take k (set gs n (p (filterOf (drop at ws)))) ++ map p (filtersFrom (maxFilters - (n + 1)) (drop (behind ws at) ws))) (add-one n) ∙
+    ap (λ (xs : List ℕ). xs ++ map p (filtersFrom (maxFilters - (n + 1)) (drop (behind ws at) ws))) (take-suc-set gs n (p (filterOf (drop at ws))) r) ∙
+    append-snoc (take n gs) (p (filterOf (drop at ws))) (map p (filtersFrom (maxFilters - (n + 1)) (drop (behind ws at) ws))))
 
-pub record Reading (ws : List ℕ) (at n : ℕ) (gs ls : List ℕ) : Type 0 where
+pub record Partway (ws : List ℕ) (at n : ℕ) (gs ls : List ℕ) : Type 0 where
   pub few : n ≤ maxFilters
   pub groups-room : length gs ≡ maxFilters
   pub levels-room : length ls ≡ maxFilters
@@ -75,15 +76,15 @@ pub record Reading (ws : List ℕ) (at n : ℕ) (gs ls : List ℕ) : Type 0 wher
   pub groups : column groupIn ws at n gs ≡ map groupIn (filtersOf ws)
   pub levels : column levelIn ws at n ls ≡ map levelIn (filtersOf ws)
 
-pub reading-start : (ws gs ls : List ℕ) → length gs ≡ maxFilters → length ls ≡ maxFilters → Reading ws 0 0 gs ls
+pub partway-start : (ws gs ls : List ℕ) → length gs ≡ maxFilters → length ls ≡ maxFilters → Partway ws 0 0 gs ls
 unfolding filtersOf
-reading-start ws gs ls g l =
+partway-start ws gs ls g l =
     record { few = omega arith; groups-room = g; levels-room = l; count = omega arith; groups = refl; levels = refl }
 
-pub reading-turn : (ws gs ls : List ℕ) (at n g l : ℕ) → n < maxFilters → at < length ws → g ≡ getD ws at 0 → l ≡ getD ws (at + 1) 0 →
-    Reading ws at n gs ls → Reading ws (after ws at) (n + 1) (set gs n g) (set ls n l)
+pub partway-turn : (ws gs ls : List ℕ) (at n g l : ℕ) → n < maxFilters → at < length ws → g ≡ getD ws at 0 → l ≡ getD ws (at + 1) 0 →
+    Partway ws at n gs ls → Partway ws (behind ws at) (n + 1) (set gs n g) (set ls n l)
 unfolding filterOf
-reading-turn ws gs ls at n g l h m eg el r =
+partway-turn ws gs ls at n g l h m eg el r =
     let xg : g ≡ groupIn (filterOf (drop at ws)) = eg ∙ sym (getD-drop at ws 0 0 ∙ ap (λ (k : ℕ). getD ws k 0) (add-zero at)) in
     let xl : l ≡ levelIn (filterOf (drop at ws)) = el ∙ sym (getD-drop at ws 1 0) in
     record {
@@ -95,8 +96,8 @@ reading-turn ws gs ls at n g l h m eg el r =
       levels = rw xl (column-turn levelIn ws ls at n h m (omega (arith, r .levels-room)) ∙ r .levels);
     }
 
-pub reading-end : (ws gs ls : List ℕ) (at n : ℕ) → (ltb n maxFilters && ltb at (length ws)) ≡ false → Reading ws at n gs ls → Heads (filtersOf ws) n gs ls
-reading-end ws gs ls at n e r =
+pub partway-end : (ws gs ls : List ℕ) (at n : ℕ) → (ltb n maxFilters && ltb at (length ws)) ≡ false → Partway ws at n gs ls → Heads (filtersOf ws) n gs ls
+partway-end ws gs ls at n e r =
     let z = filters-end ws at n e in
     record {
       count = omega (arith, rw z at (r .count));

@@ -3,9 +3,9 @@
 --   tests-turn, tests-found      the next test has no fault; it has one
 --   list-turn, list-found        the next filter has no fault; it has one
 -- Assumes nothing.
-use Prim.Native.Nat.{ℕ, zero, suc, _+_, _-_, _*_, _≤_, _<_}
-use mathlib.Core.Path.{_≡_, _∙_}
-use mathlib.Core.List.{List}
+use Prim.Native.Nat.{ℕ, zero, suc, _+_, _-_, _<_}
+use mathlib.Core.Path.{_≡_, refl, _∙_}
+use mathlib.Core.List.{List, [], _∷_}
 use native.Mathlib.Nat.{add-zero, not-suc-le-zero, le-refl}
 use native.Mathlib.Omega.{arith}
 use lib.ListN.{length, getD, take, drop, length-drop}
@@ -13,7 +13,7 @@ use lib.Seq.{getD-drop, drop-drop, take-all}
 use borrow.Author.Tests.{eq-eqb, ne-eqb}
 use Rattle.lists.specs.Filters.{maxFilters, testWords, countWord, filterWords}
 use Rattle.lists.specs.Refusals.{testFault, wordsFault, testsFault, filterFault, listedFrom}
-use Rattle.lists.specs.Laws.{no-fault, listed-step, listed-full}
+use Rattle.lists.specs.laws.Walking.{listed-step}
 use Rattle.lists.specs.declared.Listed.the-variants.{Refused}
 
 pub words-at : (ws : List ℕ) (at : ℕ) → testFault (getD ws at 0) (getD ws (at + 1) 0) (getD ws (at + 2) 0) (getD ws (at + 3) 0) ≡ wordsFault (drop at ws)
@@ -32,16 +32,13 @@ unfolding testsFault
 tests-found ws zero l e = absurd (not-suc-le-zero l)
 tests-found ws (suc n) l e = rw (ne-eqb (wordsFault ws) 0 e)
 
-pub count-at : (ws : List ℕ) (at : ℕ) → countWord (drop at ws) ≡ getD ws (at + 2) 0
-count-at ws at = getD-drop at ws 2 0
-
 pub list-turn : (ws : List ℕ) (at i t : ℕ) → i < maxFilters → at < length ws → filterFault (drop at ws) ≡ 0 →
-    listedFrom (maxFilters - i) i t (drop at ws) ≡ listedFrom (maxFilters - (i + 1)) (i + 1) (t + getD ws (at + 2) 0) (drop (at + (3 + 4 * getD ws (at + 2) 0)) ws)
+    listedFrom (maxFilters - i) i t (drop at ws) ≡ listedFrom (maxFilters - (i + 1)) (i + 1) (t + countWord (drop at ws)) (drop (at + filterWords (drop at ws)) ws)
 list-turn ws at i t h l e =
     let z : maxFilters - i ≡ suc (maxFilters - (i + 1)) = omega arith in
     rw z
     (listed-step (maxFilters - (i + 1)) i t (drop at ws) (rw length-drop (omega arith)) ∙
-    rw (eq-eqb (filterFault (drop at ws)) 0 e, drop-drop (filterWords (drop at ws)) at ws, getD-drop at ws 2 0))
+    rw (eq-eqb (filterFault (drop at ws)) 0 e, drop-drop (filterWords (drop at ws)) at ws))
 
 pub list-found : (ws : List ℕ) (at i t : ℕ) → i < maxFilters → at < length ws → (filterFault (drop at ws) ≡ 0 → ⊥) →
     listedFrom (maxFilters - i) i t (drop at ws) ≡ Refused (filterFault (drop at ws)) i
@@ -51,6 +48,12 @@ list-found ws at i t h l e =
     (listed-step (maxFilters - (i + 1)) i t (drop at ws) (rw length-drop (omega arith)) ∙
     rw (ne-eqb (filterFault (drop at ws)) 0 e))
 
+-- No filter may follow the last.
+listed-full : (i t : ℕ) (ws : List ℕ) → 0 < length ws → listedFrom 0 i t ws ≡ Refused 1 i
+unfolding listedFrom
+listed-full i t [] l = absurd (not-suc-le-zero l)
+listed-full i t (w ∷ ws) l = refl
+
 pub list-over : (ws : List ℕ) (at i t : ℕ) → i ≡ maxFilters → at < length ws → listedFrom (maxFilters - i) i t (drop at ws) ≡ Refused 1 i
 list-over ws at i t h l =
     let z : maxFilters - i ≡ 0 = omega arith in
@@ -59,16 +62,3 @@ list-over ws at i t h l =
 -- A part that is lent from a place on is the rest of the words.
 pub rest-is : (n : ℕ) (ws : List ℕ) → take (length ws - n) (drop n ws) ≡ drop n ws
 rest-is n ws = take-all (length ws - n) (drop n ws) (rw length-drop (le-refl (length ws - n)))
-
--- Where a filter has no fault, its words are there and its count is small.
-pub record Passed (ws : List ℕ) (at : ℕ) : Type 0 where
-  pub head : at + 3 ≤ length ws
-  pub count : getD ws (at + 2) 0 ≤ 8
-  pub whole : at + (3 + 4 * getD ws (at + 2) 0) ≤ length ws
-
-pub passed : (ws : List ℕ) (at : ℕ) → at < length ws → filterFault (drop at ws) ≡ 0 → Passed ws at
-passed ws at l e =
-    let h = no-fault (drop at ws) e in
-    let d = length-drop at ws in
-    let k = getD-drop at ws 2 0 in
-    record { head = omega (arith, h .head, d); count = omega (arith, h .count, k); whole = omega (arith, h .whole, h .head, d, k) }

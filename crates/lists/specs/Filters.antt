@@ -1,6 +1,7 @@
 -- Document 01, "Tests, filters, ranks", second paragraph: a list is a run of words.
 --   maxFilters, maxTests, maxRank   32 filters, 8 tests a filter, groups and levels to 255
 --   headWords, testWords            three words before the tests, four words a test
+--   kindEqual .. kindAtLeast        the kinds, 1 to 4
 --   Item, Filter     a test with its field; a filter with its group, level and tests
 --   testOf k m v     the test that the words kind, mask, value mean
 --   filtersOf ws     the filters of the words ws, which refusals 1 to 9 do not meet
@@ -27,6 +28,19 @@ headWords = 3
 abbrev pub testWords : ℕ
 testWords = 4
 
+-- First paragraph of the section: the kinds of tests.
+abbrev pub kindEqual : ℕ
+kindEqual = 1
+
+abbrev pub kindDiffers : ℕ
+kindDiffers = 2
+
+abbrev pub kindAtMost : ℕ
+kindAtMost = 3
+
+abbrev pub kindAtLeast : ℕ
+kindAtLeast = 4
+
 pub record Item : Type 0 where
   pub field : ℕ
   pub test : Test
@@ -49,13 +63,25 @@ countWord ws = getD ws 2 0
 abbrev pub filterWords : List ℕ → ℕ
 filterWords ws = headWords + testWords * countWord ws
 
--- Kinds 1 to 4; refusal 5 leaves no other.
-unfoldable pub testOf : ℕ → ℕ → ℕ → Test
-testOf k m v = cond (eqb k 1) (Equal m v) (cond (eqb k 2) (Differs m v) (cond (eqb k 3) (AtMost v) (AtLeast v)))
+-- The words of a test.
+abbrev pub kindWord : List ℕ → ℕ
+kindWord ws = getD ws 0 0
 
--- The test that four words say: kind, field, mask, value.
+abbrev pub fieldWord : List ℕ → ℕ
+fieldWord ws = getD ws 1 0
+
+abbrev pub maskWord : List ℕ → ℕ
+maskWord ws = getD ws 2 0
+
+abbrev pub valueWord : List ℕ → ℕ
+valueWord ws = getD ws 3 0
+
+-- Refusal 5 leaves no other kind.
+unfoldable pub testOf : ℕ → ℕ → ℕ → Test
+testOf k m v = cond (eqb k kindEqual) (Equal m v) (cond (eqb k kindDiffers) (Differs m v) (cond (eqb k kindAtMost) (AtMost v) (AtLeast v)))
+
 unfoldable pub itemOf : List ℕ → Item
-itemOf ws = record { field = getD ws 1 0; test = testOf (getD ws 0 0) (getD ws 2 0) (getD ws 3 0) }
+itemOf ws = record { field = fieldWord ws; test = testOf (kindWord ws) (maskWord ws) (valueWord ws) }
 
 unfoldable pub itemsOf : ℕ → List ℕ → List Item
 itemsOf zero ws = []

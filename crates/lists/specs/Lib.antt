@@ -1,6 +1,6 @@
 pub mod Filters
+pub mod Words
 pub mod Refusals
 pub mod Ranks
-pub mod Accepted
-pub mod Laws
-pub mod Faults
+pub mod inner
+pub mod laws

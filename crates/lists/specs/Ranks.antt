@@ -4,12 +4,12 @@
 --   rankSets fs        one for each number that a filter can have
 --   fires fs r i       filter i's tests all hold, where field n reads r n; false beyond the list
 --   matches fs r i     filter i is in the match set
-use Prim.Native.Nat.{ℕ, _≤_}
+--   matchSet fs r      the match set as a bit set
+use Prim.Native.Nat.{ℕ}
 use mathlib.Core.Bool.{Bool, true, cond, not, _&&_, _||_}
-use mathlib.Core.Path.{_≡_}
-use mathlib.Core.List.{List, [], _∷_, map}
+use mathlib.Core.List.{List, [], _∷_}
 use lib.Dec.{ltb, eqb}
-use lib.ListN.{length, getD, take}
+use lib.ListN.{length, getD}
 use Rattle.residue.specs.Tests.{holdsOf}
 use Rattle.residue.specs.declared.Reading.{Reading}
 use Rattle.sets.specs.Sets.{setOf, tally, some}
@@ -34,20 +34,6 @@ outranks g l i h m j = eqb g h && (ltb m l || (eqb l m && ltb i j))
 unfoldable pub above : List Filter → ℕ → ℕ → Bool
 above fs i j = outranks (groupOf fs i) (levelOf fs i) i (groupOf fs j) (levelOf fs j) j
 
--- The same of filters known by their groups and levels alone.
-unfoldable pub aboveBy : List ℕ → List ℕ → ℕ → ℕ → Bool
-aboveBy gs ls j i = outranks (getD gs j 0) (getD ls j 0) j (getD gs i 0) (getD ls i 0) i
-
-unfoldable pub rankSetBy : List ℕ → List ℕ → ℕ → ℕ → ℕ
-rankSetBy gs ls n i = cond (ltb i n) (setOf (tally n (λ j. aboveBy gs ls j i))) 0
-
--- The first n groups and levels are those of the n filters.
-pub record Heads (fs : List Filter) (n : ℕ) (gs ls : List ℕ) : Type 0 where
-  pub count : n ≡ length fs
-  pub few : n ≤ maxFilters
-  pub groups : take n gs ≡ map (λ (f : Filter). f .group) fs
-  pub levels : take n ls ≡ map (λ (f : Filter). f .level) fs
-
 unfoldable pub rankSet : List Filter → ℕ → ℕ
 rankSet fs i = cond (ltb i (length fs)) (setOf (tally (length fs) (λ j. above fs j i))) 0
 
@@ -63,3 +49,6 @@ fires fs r i = ltb i (length fs) && allHold r (testsOf fs i)
 
 unfoldable pub matches : List Filter → (ℕ → Reading) → ℕ → Bool
 matches fs r i = fires fs r i && not (some (length fs) (λ j. above fs j i && fires fs r j))
+
+unfoldable pub matchSet : List Filter → (ℕ → Reading) → ℕ
+matchSet fs r = setOf (tally (length fs) (λ i. matches fs r i))

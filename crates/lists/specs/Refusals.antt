@@ -8,26 +8,26 @@ use mathlib.Core.Bool.{Bool, cond, not, _&&_, _||_}
 use mathlib.Core.List.{List, [], _∷_}
 use lib.Dec.{leb, ltb, eqb}
 use lib.Bits.{bitAnd}
-use lib.ListN.{length, getD, drop}
+use lib.ListN.{length, drop}
 use Rattle.fields.specs.Widths.{fieldCount, full}
-use Rattle.lists.specs.Filters.{maxFilters, maxTests, maxRank, headWords, testWords, groupWord, levelWord, countWord, filterWords}
+use Rattle.lists.specs.Filters.{maxFilters, maxTests, maxRank, headWords, testWords, kindDiffers, kindAtLeast, groupWord, levelWord, countWord, kindWord, fieldWord, maskWord, valueWord, filterWords}
 use Rattle.lists.specs.declared.Listed.{Listed}
 use Rattle.lists.specs.declared.Listed.the-variants.{Accepted, Refused}
 
 -- Kinds 1 and 2 have a mask.
 abbrev pub masked : ℕ → Bool
-masked k = leb k 2
+masked k = leb k kindDiffers
 
 unfoldable pub testFault : ℕ → ℕ → ℕ → ℕ → ℕ
 testFault k f m v =
-    cond (eqb k 0 || ltb 4 k) 5
+    cond (eqb k 0 || ltb kindAtLeast k) 5
     (cond (leb fieldCount f) 6
     (cond (cond (masked k) (eqb m 0) (not (eqb m 0))) 7
     (cond (ltb (full f) m || ltb (full f) v) 8
     (cond (masked k && not (eqb (bitAnd v m) v)) 9 0))))
 
 unfoldable pub wordsFault : List ℕ → ℕ
-wordsFault ws = testFault (getD ws 0 0) (getD ws 1 0) (getD ws 2 0) (getD ws 3 0)
+wordsFault ws = testFault (kindWord ws) (fieldWord ws) (maskWord ws) (valueWord ws)
 
 unfoldable pub testsFault : ℕ → List ℕ → ℕ
 testsFault zero ws = 0

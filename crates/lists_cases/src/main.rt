@@ -145,7 +145,7 @@ fn show_sets(sets: &[u32], n: usize) {
 // Six filters without tests: three of group 1 with levels 2, 3, 2, two of group 0 with one level, one alone in its group.
 fn ranks() {
     let list = [1u32, 2, 0, 0, 7, 0, 1, 3, 0, 1, 2, 0, 0, 7, 0, 9, 255, 0];
-    let mut sets = [0u32; 32];
+    let mut sets = [0u32; lists::MAX_FILTERS];
     lists::rank_sets(&list, &mut sets);
     show_sets(&sets, 7);
 }

@@ -5,14 +5,14 @@
 --   recordsIn fs   the words of its records
 --   slotsIn n ranks   the machine whose states are the words of a slot of n filters
 use Prim.Native.Nat.{ℕ, suc}
-use mathlib.Core.List.{List, [], _∷_}
+use mathlib.Core.List.{List, []}
 use Rattle.lists.specs.Filters.{Filter, testsIn}
 use Rattle.states.specs.States.{State, questionOf, start, step, sureSet, outSet}
 use Rattle.states.specs.Runs.{asks}
 use Rattle.states.specs.Same.{sameState}
 use Rattle.automaton.specs.Machines.{Machine, visit, recordsOf}
-use Rattle.slots.specs.Slots.{questionIn, asksIn, stepWords, sureSetIn, outSetIn, sameWords}
-use Rattle.slots.specs.Laws.{questionWords}
+use Rattle.slots.specs.inner.Slots.{questionIn, asksIn, stepWords, sureSetIn, outSetIn, sameWords}
+use Rattle.slots.specs.Words.{questionWords}
 
 abbrev pub boxOf : List Filter → Machine
 boxOf fs =
@@ -22,7 +22,8 @@ boxOf fs =
       asks = λ s. asks (questionOf s);
       step = λ o s. step fs o s;
       question = λ s. questionWords (questionOf s);
-      sets = λ s. sureSet fs s ∷ outSet fs s ∷ [];
+      sure = λ s. sureSet fs s;
+      out = λ s. outSet fs s;
     }
 
 -- No path is longer than the list's tests.
@@ -43,5 +44,6 @@ slotsIn n ranks =
       asks = λ w. asksIn n w;
       step = λ o w. stepWords n ranks o w;
       question = λ w. questionIn n w;
-      sets = λ w. sureSetIn n ranks w ∷ outSetIn n w ∷ [];
+      sure = λ w. sureSetIn n ranks w;
+      out = λ w. outSetIn n w;
     }

@@ -1,5 +1,4 @@
 pub mod Box
-pub mod Laws
-pub mod Carried
-pub mod Remaining
 pub mod Cases
+pub mod laws
+pub mod inner

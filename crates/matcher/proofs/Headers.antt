@@ -6,7 +6,7 @@ use lib.ListN.{length}
 use Rattle.fields.specs.Widths.{fieldCount}
 use Rattle.fields.specs.Fields.{field}
 use Rattle.fields.specs.Header.{Header, readingAt}
-use Rattle.fields.specs.LawsHeader.{header-agrees}
+use Rattle.fields.specs.laws.Header.{header-agrees}
 
 pub read-once :
     {f : List ℕ} {p : ℕ} {old new : List ℕ} {s : ℕ} →

@@ -14,7 +14,7 @@ use Rattle.fields.specs.Widths.{fieldCount}
 use Rattle.lists.specs.Filters.{testOf}
 use Rattle.tables.specs.Tables.{wordOf, kindAt, fieldAt}
 use Rattle.matcher.specs.Walk.{damaged, nextOf, onward, walkFrom}
-use Rattle.matcher.specs.Chains.{linksAt, Chained}
+use Rattle.matcher.specs.inner.Chains.{linksAt, Chained}
 use Rattle.matcher.proofs.Steps.{Walking, window, read, read-word, at-question, way-fails}
 
 record Link (t : List ℕ) (n f x next : ℕ) : Type 0 where

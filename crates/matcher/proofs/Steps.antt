@@ -17,10 +17,10 @@ use Rattle.residue.specs.Tests.{holds}
 use Rattle.residue.specs.declared.Reading.{Reading}
 use Rattle.residue.specs.declared.Reading.the-variants.{Absent, Value}
 use Rattle.fields.specs.Widths.{fieldCount}
-use Rattle.lists.specs.Filters.{testOf}
+use Rattle.lists.specs.Filters.{kindAtLeast, testOf}
 use Rattle.tables.specs.Tables.{recordWords, wordOf, kindAt, fieldAt}
 use Rattle.matcher.specs.Walk.{Shown, refused, damaged, nextBy, nextOf, arrive, onward, walkFrom}
-use Rattle.matcher.specs.Records.{wordIn, endsAt, endAt}
+use Rattle.matcher.specs.inner.Records.{wordIn, lastField, endsAt, endAt}
 
 abbrev pub window : List ℕ → ℕ → List ℕ
 window t n = take (recordWords * n + recordWords - recordWords * n) (drop (recordWords * n) t)
@@ -99,7 +99,7 @@ at-question t m r n a l h e f =
 ends-words :
     (t : List ℕ) (n l : ℕ) →
     endsAt (window t n) l ≡
-    (eqb (wordOf t n kindAt) 0 || ltb 4 (wordOf t n kindAt) || ltb 13 (wordOf t n fieldAt) || eqb l 0)
+    (eqb (wordOf t n kindAt) 0 || ltb kindAtLeast (wordOf t n kindAt) || ltb lastField (wordOf t n fieldAt) || eqb l 0)
 unfolding endsAt
 ends-words t n l = rw (read-word t n 0 (omega arith), read-word t n 1 (omega arith))
 
@@ -107,13 +107,13 @@ module _ {t : List ℕ} {m : ℕ} {r : ℕ → Reading} {a l n : ℕ} (w : Walki
   ended-by :
       (used : Bool) →
       eqb l 0 ≡ used →
-      (eqb (wordOf t n kindAt) 0 || ltb 4 (wordOf t n kindAt) || ltb 13 (wordOf t n fieldAt) || used) ≡ true →
+      (eqb (wordOf t n kindAt) 0 || ltb kindAtLeast (wordOf t n kindAt) || ltb lastField (wordOf t n fieldAt) || used) ≡ true →
       walkFrom t m r 0 (a - l) n ≡ walkFrom t m r l (a - l) n
   unfolding damaged
   ended-by true h e = rw (eqb-true l 0 h)
   ended-by false h e =
       at-rest t m r (a - l) n l
-      (covered (eqb (wordOf t n kindAt) 0) (ltb 4 (wordOf t n kindAt)) (ltb 13 (wordOf t n fieldAt))
+      (covered (eqb (wordOf t n kindAt) 0) (ltb kindAtLeast (wordOf t n kindAt)) (ltb lastField (wordOf t n fieldAt))
       (sym (or-false _) ∙ e))
 
   -- The walk that goes no further shows what the record shows.
@@ -133,7 +133,7 @@ module _ {t : List ℕ} {m : ℕ} {r : ℕ → Reading} {a l n : ℕ} where
   unfolding damaged
   asking w e =
       let free =
-      clear (eqb (wordOf t n kindAt) 0) (ltb 4 (wordOf t n kindAt)) (ltb 13 (wordOf t n fieldAt)) (eqb l 0)
+      clear (eqb (wordOf t n kindAt) 0) (ltb kindAtLeast (wordOf t n kindAt)) (ltb lastField (wordOf t n fieldAt)) (eqb l 0)
       (sym (ends-words t n l) ∙ e) in
       let left : 0 < l = pos-of-ne-zero (eqb-false l 0 (free .3)) in
       let fewer : l - 1 < a = omega (arith, w .within) in

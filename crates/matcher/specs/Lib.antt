@@ -1,4 +1,3 @@
 pub mod Walk
-pub mod Records
-pub mod Chains
-pub mod Laws
+pub mod laws
+pub mod inner

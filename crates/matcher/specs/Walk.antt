@@ -1,5 +1,4 @@
 -- Document 01, "Refusal numbers", the paragraph on classifying: what a walk through any table's words answers.
---   maxFrame            1,522 bytes
 --   Shown               how the walk ended (0 refused, 1 done, 2 stopped), the refusal's number, sure, out, questions asked
 --   shown a             document 01's numbers for each case of the enum Answer
 --   damaged t n         record n has a kind above 4, or a kind that is not 0 and a field above the last
@@ -15,14 +14,12 @@ use Rattle.residue.specs.Tests.{holds}
 use Rattle.residue.specs.declared.Reading.{Reading}
 use Rattle.residue.specs.declared.Reading.the-variants.{Absent, Value}
 use Rattle.fields.specs.Widths.{fieldCount}
+use Rattle.fields.specs.Ethernet.{maxFrame}
 use Rattle.fields.specs.Fields.{field}
-use Rattle.lists.specs.Filters.{testOf}
+use Rattle.lists.specs.Filters.{kindAtLeast, testOf}
 use Rattle.tables.specs.Tables.{slotsOf, wordOf, kindAt, fieldAt, maskAt, valueAt, holdsAt, failsAt, absentAt, sureAt, outAt}
 use Rattle.matcher.specs.declared.Answer.{Answer}
 use Rattle.matcher.specs.declared.Answer.the-variants.{Done, Stopped, Refused}
-
-abbrev pub maxFrame : ℕ
-maxFrame = 1522
 
 pub record Shown : Type 0 where
   pub ended : ℕ
@@ -47,7 +44,7 @@ shown (Stopped s o k) = stopped s o k
 shown (Refused n) = refused n
 
 unfoldable pub damaged : List ℕ → ℕ → Bool
-damaged t n = ltb 4 (wordOf t n kindAt) || (not (eqb (wordOf t n kindAt) 0) && leb fieldCount (wordOf t n fieldAt))
+damaged t n = ltb kindAtLeast (wordOf t n kindAt) || (not (eqb (wordOf t n kindAt) 0) && leb fieldCount (wordOf t n fieldAt))
 
 -- The absent way where the field is absent; else the holds or the fails way. Kinds 3 and 4 have no mask.
 unfoldable pub nextBy : List ℕ → ℕ → Reading → ℕ

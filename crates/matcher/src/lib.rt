@@ -7,10 +7,31 @@ ghost use Rattle.fields.specs.Header.{readingAt};
 ghost use Rattle.lists.specs.Filters.{testOf};
 ghost use Rattle.tables.specs.Tables.{recordWords, maxSlots};
 ghost use Rattle.matcher.specs.Walk.{shown, walkFrom, walk};
-ghost use Rattle.matcher.specs.Records.{endsAt, endAt};
-ghost use Rattle.matcher.specs.Chains.{linksAt, Chained};
+ghost use Rattle.matcher.specs.inner.Records.{endsAt, endAt};
+ghost use Rattle.matcher.specs.inner.Chains.{linksAt, Chained};
 ghost use Rattle.fields.specs.Widths.{fieldCount};
+use fields::FIELDS;
+use fields::LAST_FIELD;
+use fields::MAX_FRAME;
+use fields::Values;
+use lists::AT_LEAST;
+use lists::AT_MOST;
+use lists::DIFFERS;
+use lists::EQUAL;
 use residue::Reading;
+use tables::ABSENT_AT;
+use tables::FAILS_AT;
+use tables::FIELD_AT;
+use tables::HOLDS_AT;
+use tables::KIND_AT;
+use tables::MASK_AT;
+use tables::MAX_SLOTS;
+use tables::OUT_AT;
+use tables::RECORD_WORDS;
+use tables::SURE_AT;
+use tables::VALUE_AT;
+
+const MAX_STATES: u32 = MAX_SLOTS as u32;
 
 // The end of a walk: at a final record, or with the allowance used, each with the sure set, the out set and the questions asked; or refused, with its number.
 pub enum Answer {
@@ -30,9 +51,9 @@ fn holds_word(kind: u32, mask: u32, value: u32, x: u32) -> bool
     ensures { λ r. ⌜ r ≡ holds (testOf kind mask value) x ⌝ }
 {
     match kind {
-        1 => x & mask == value,
-        2 => x & mask != value,
-        3 => x <= value,
+        EQUAL => x & mask == value,
+        DIFFERS => x & mask != value,
+        AT_MOST => x <= value,
         _ => value <= x,
     }
 }
@@ -42,14 +63,14 @@ fn ends(words: &[u32], left: u32) -> bool
     requires { ⌜ recordWords ≤ length (now words) ⌝ }
     ensures { λ r. ⌜ r ≡ endsAt (now (words .entry)) left ⌝ }
 {
-    let kind = words[0];
+    let kind = words[KIND_AT];
     if kind == 0 {
         return true;
     }
-    if 4 < kind {
+    if AT_LEAST < kind {
         return true;
     }
-    if 13 < words[1] {
+    if LAST_FIELD < words[FIELD_AT] {
         return true;
     }
     left == 0
@@ -60,12 +81,12 @@ fn end(words: &[u32], asked: u32) -> Answer
     requires { ⌜ recordWords ≤ length (now words) ⌝ }
     ensures { λ r. ⌜ shown r ≡ endAt (now (words .entry)) asked ⌝ }
 {
-    let sure = words[7];
-    let out = words[8];
-    if words[0] == 0 {
+    let sure = words[SURE_AT];
+    let out = words[OUT_AT];
+    if words[KIND_AT] == 0 {
         return Answer::Done(sure, out, asked);
     }
-    if (4 < words[0]) | (13 < words[1]) {
+    if (AT_LEAST < words[KIND_AT]) | (LAST_FIELD < words[FIELD_AT]) {
         return Answer::Refused(13);
     }
     Answer::Stopped(sure, out, asked)
@@ -76,16 +97,16 @@ fn links(words: &[u32], field: u32, x: u32, next: u32) -> bool
     requires { ⌜ recordWords ≤ length (now words) ⌝ }
     ensures { λ r. ⌜ r ≡ linksAt (now (words .entry)) field x next ⌝ }
 {
-    if words[0] != 1 {
+    if words[KIND_AT] != EQUAL {
         return false;
     }
-    if words[1] != field {
+    if words[FIELD_AT] != field {
         return false;
     }
-    if x & words[2] == words[3] {
+    if x & words[MASK_AT] == words[VALUE_AT] {
         return false;
     }
-    words[5] == next
+    words[FAILS_AT] == next
 }
 
 // What a chain from record s on leaves of the questions at the least: each link takes one and leads two further, none beyond the states.
@@ -107,8 +128,8 @@ fn chain(table: &[u32], from: Place, field: u32, x: u32, states: u32) -> Place
     let mut left = from.left;
     let stop = least_left(s, left, states);
     while stop < left {
-        let b = 9 * s as usize;
-        if !links(&table[b..b + 9], field, x, s + 2) {
+        let b = RECORD_WORDS * s as usize;
+        if !links(&table[b..b + RECORD_WORDS], field, x, s + 2) {
             return Place { s, left };
         }
         s += 2;
@@ -131,7 +152,7 @@ fn follow(table: &[u32], s: u32, next: u32, field: u32, x: u32, states: u32, lef
 
 // The walk from record 0 on, over a header that was read. Each way has its own load and its own test:
 // one `next` for all ways would make each record wait for the one before it.
-fn walk_from(present: u32, values: &[u32; 14], table: &[u32], states: u32, allowance: u32) -> Answer
+fn walk_from(present: u32, values: &Values, table: &[u32], states: u32, allowance: u32) -> Answer
     requires { ⌜ 0 < states ⌝ ∗ ⌜ states ≤ maxSlots ⌝ ∗ ⌜ recordWords * states ≤ length (now table) ⌝ }
     ensures { λ r. ⌜ shown r ≡ walkFrom (now (table .entry)) states (readingAt present (now (values .entry))) allowance 0 0 ⌝ }
 {
@@ -140,31 +161,31 @@ fn walk_from(present: u32, values: &[u32; 14], table: &[u32], states: u32, allow
         left: allowance,
     };
     loop {
-        let b = 9 * at.s as usize;
-        let words = &table[b..b + 9];
+        let b = RECORD_WORDS * at.s as usize;
+        let words = &table[b..b + RECORD_WORDS];
         if ends(words, at.left) {
             return end(words, allowance - at.left);
         }
         at.left -= 1;
-        let Reading::Value(x) = fields::reading_at(present, values, words[1]) else {
-            at.s = words[6];
+        let Reading::Value(x) = fields::reading_at(present, values, words[FIELD_AT]) else {
+            at.s = words[ABSENT_AT];
             if states <= at.s {
                 return Answer::Refused(13);
             }
             continue;
         };
-        if holds_word(words[0], words[2], words[3], x) {
-            at.s = words[4];
+        if holds_word(words[KIND_AT], words[MASK_AT], words[VALUE_AT], x) {
+            at.s = words[HOLDS_AT];
             if states <= at.s {
                 return Answer::Refused(13);
             }
             continue;
         }
-        let next = words[5];
+        let next = words[FAILS_AT];
         if states <= next {
             return Answer::Refused(13);
         }
-        at = follow(table, at.s, next, words[1], x, states, at.left);
+        at = follow(table, at.s, next, words[FIELD_AT], x, states, at.left);
     }
 }
 
@@ -172,19 +193,19 @@ fn walk_from(present: u32, values: &[u32; 14], table: &[u32], states: u32, allow
 pub fn classify(frame: &[u8], port: u8, table: &[u32], states: u32, allowance: u32) -> Answer
     ensures { λ r. ⌜ shown r ≡ walk (now (frame .entry)) port (now (table .entry)) states allowance ⌝ }
 {
-    if 1522 < frame.len() {
+    if MAX_FRAME < frame.len() {
         return Answer::Refused(12);
     }
     if states == 0 {
         return Answer::Refused(13);
     }
-    if 4096 < states {
+    if MAX_STATES < states {
         return Answer::Refused(13);
     }
-    if table.len() < 9 * states as usize {
+    if table.len() < RECORD_WORDS * states as usize {
         return Answer::Refused(13);
     }
-    let mut values = [0u32; 14];
+    let mut values = [0u32; FIELDS];
     let present = fields::read_header(frame, port, &mut values);
     walk_from(present, &values, table, states, allowance)
 }

@@ -2,11 +2,4 @@ pub mod Tests
 pub mod Facts
 pub mod Residues
 pub mod Relations
-pub mod Choice
-pub mod Bits
-pub mod Lines
-pub mod Sound
-pub mod Questions
-pub mod Narrowing
-pub mod Spent
-pub mod Laws
+pub mod laws

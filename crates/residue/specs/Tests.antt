@@ -3,7 +3,7 @@
 --   holdsOf t r      the test t holds of the reading r; no test holds of an absent field
 --   wellFormed f t   t is a test that refusals 7 to 9 leave, on a field whose greatest number is f
 use Prim.Native.Nat.{ℕ}
-use mathlib.Core.Bool.{Bool, true, false, not, _&&_}
+use mathlib.Core.Bool.{Bool, false, not, _&&_}
 use lib.Dec.{leb, eqb}
 use lib.Bits.{bitAnd}
 use Rattle.residue.specs.declared.Test.{Test}

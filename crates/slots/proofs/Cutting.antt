@@ -12,16 +12,15 @@ use lib.ListN.{length, getD, set, take, drop, replicate, length-append, length-s
 use lib.Seq.{sets-eq, take-suc-set, take-all, take-at, append-snoc, length-take-le, getD-drop, drop-drop}
 use borrow.Author.Tests.{eqb-true, eq-eqb, ne-eqb}
 use Rattle.residue.specs.Residues.{residueBy}
-use Rattle.residue.specs.declared.Test.{Test}
 use Rattle.residue.specs.declared.Fact.{Fact}
 use Rattle.residue.specs.declared.Residue.{Residue}
 use Rattle.residue.specs.declared.Residue.the-variants.{True, False, Left}
 use Rattle.fields.specs.Widths.{full}
-use Rattle.lists.specs.Filters.{Item, testWords, maxTests, testOf, itemOf}
-use Rattle.lists.specs.Accepted.{itemWords}
+use Rattle.lists.specs.Filters.{Item, testWords, maxTests, itemOf}
+use Rattle.lists.specs.Words.{itemWords}
 use Rattle.states.specs.States.{Standing, out, left, keep, join, cut, cutStanding}
 use Rattle.slots.specs.Words.{filterSlot, outMark, itemsWords, outWords, writtenFilter, readItems, readFilter}
-use Rattle.slots.specs.Steps.{over, cleared, item, leftOf, keptWords, keptAt, finished, Kept}
+use Rattle.slots.specs.inner.Steps.{over, clearedFrom, item, leftOf, keptWords, keptAt, finished, Kept}
 
 pub put-four : (d : List ℕ) (at k f m v : ℕ) → at + testWords ≤ length d → set (set (set (set d at k) (at + 1) f) (at + 2) m) (at + 3) v ≡ over at (k ∷ f ∷ m ∷ v ∷ []) d
 put-four d at k f m v h = rw (add-one at, add-two at, add-three at) (sets-eq (k ∷ f ∷ m ∷ v ∷ []) d at h)
@@ -34,34 +33,30 @@ replicate-suc a b e = ap (λ (n : ℕ). replicate {A = ℕ} n 0) e
 pub zeros : (a b : ℕ) → a ≡ b → replicate {A = ℕ} a 0 ≡ replicate {A = ℕ} b 0
 zeros a b e = ap (λ (n : ℕ). replicate {A = ℕ} n 0) e
 
-pub cleared-step : (d : List ℕ) (i : ℕ) → i < length d → cleared (i + 1) (set d i 0) ≡ cleared i d
+pub cleared-step : (d : List ℕ) (i : ℕ) → i < length d → clearedFrom (i + 1) (set d i 0) ≡ clearedFrom i d
 cleared-step d i h =
     rw (length-set d i 0, add-one i, take-suc-set d i 0 h) (append-snoc (take i d) 0 (replicate (length d - suc i) 0) ∙
     ap (λ (r : List ℕ). take i d ++ r) (sym (replicate-suc (length d - i) (length d - suc i) (omega arith))))
 
-pub cleared-all : (d : List ℕ) (i : ℕ) → length d ≤ i → cleared i d ≡ d
+pub cleared-all : (d : List ℕ) (i : ℕ) → length d ≤ i → clearedFrom i d ≡ d
 cleared-all d i h =
     let z : length d - i ≡ 0 = omega arith in
     rw (take-all i d h, z) (append-nil d)
 
--- ---- the words of a test
-
-pub item-at : (src : List ℕ) (at : ℕ) → itemOf (drop at src) ≡ item (getD src (at + 1) 0) (testOf (getD src at 0) (getD src (at + 2) 0) (getD src (at + 3) 0))
-unfolding itemOf
-item-at src at = rw (getD-drop at src 0 0, getD-drop at src 1 0, getD-drop at src 2 0, getD-drop at src 3 0, add-zero at)
+-- ---- what is left of a test
 
 -- On the field asked about.
-pub left-same : (n g : ℕ) (k : Fact) (t : Test) → g ≡ n → leftOf n k (item g t) ≡ residueBy (full n) k t
+pub left-same : (n : ℕ) (k : Fact) (t : Item) → t .field ≡ n → leftOf n k t ≡ residueBy (full n) k (t .test)
 unfolding leftOf
-left-same n g k t e = rw (eq-eqb g n e)
+left-same n k t e = rw (eq-eqb (t .field) n e)
 
-pub left-other : (n g : ℕ) (k : Fact) (t : Test) → (g ≡ n → ⊥) → leftOf n k (item g t) ≡ Left t
+pub left-other : (n : ℕ) (k : Fact) (t : Item) → (t .field ≡ n → ⊥) → leftOf n k t ≡ Left (t .test)
 unfolding leftOf
-left-other n g k t e = rw (ne-eqb g n e)
+left-other n k t e = rw (ne-eqb (t .field) n e)
 
 -- ---- out
 
-pub out-words : (d : List ℕ) → length d ≡ filterSlot → cleared 1 (set d 0 outMark) ≡ outWords
+pub out-words : (d : List ℕ) → length d ≡ filterSlot → clearedFrom 1 (set d 0 outMark) ≡ outWords
 unfolding outWords
 out-words [] h = absurd (omega arith)
 out-words (x ∷ d) h = ap (λ (n : ℕ). outMark ∷ replicate {A = ℕ} (n - 1) 0) h
@@ -75,10 +70,6 @@ cut-step n k t ts = go (eqb (t .field) n) refl
     go : (b : Bool) → eqb (t .field) n ≡ b → cond b (join n (residueBy (full n) k (t .test)) (cut n k ts)) (keep t (cut n k ts)) ≡ join (t .field) (cond b (residueBy (full n) k (t .test)) (Left (t .test))) (cut n k ts)
     go true e = ap (λ (f : ℕ). join f (residueBy (full n) k (t .test)) (cut n k ts)) (sym (eqb-true (t .field) n e))
     go false e = refl
-
-pub length-item : (it : Item) → length (itemWords it) ≡ testWords
-unfolding itemWords
-length-item it = refl
 
 pub take-over : (e : ℕ) (ws d : List ℕ) → e ≤ length d → take (e + length ws) (over e ws d) ≡ take e d ++ ws
 take-over e ws d h = take-at (take e d ++ ws) (drop (e + length ws) d) (e + length ws) (length-append (take e d) ws ∙ ap (λ (n : ℕ). n + length ws) (length-take-le e d h))
@@ -101,7 +92,7 @@ kept-step e f d True x h l = refl
 kept-step e f d False x h l = absurd (omega arith)
 kept-step e f d (Left u) x h l = finished-keep e d (item f u) x h
 
-pub kept-out : (e f : ℕ) (d : List ℕ) (r : Residue) (x : Standing) → e + testWords ≤ filterSlot → filterSlot < keptAt e r → cleared (keptAt e r) (keptWords e f r d) ≡ finished e d (join f r x)
+pub kept-out : (e f : ℕ) (d : List ℕ) (r : Residue) (x : Standing) → e + testWords ≤ filterSlot → filterSlot < keptAt e r → clearedFrom (keptAt e r) (keptWords e f r d) ≡ finished e d (join f r x)
 unfolding keptAt keptWords join finished outWords
 kept-out e f d True x h l = absurd (omega arith)
 kept-out e f d False x h l = refl
@@ -127,16 +118,13 @@ finished-start d out = refl
 finished-start d (left ts) =
     ap (λ (r : List ℕ). itemsWords ts ++ r) (zeros (filterSlot - 0 - testWords * length ts) (filterSlot - testWords * length ts) (omega arith))
 
-pub finished-end : (e : ℕ) (d : List ℕ) → length d ≡ filterSlot → cleared e d ≡ finished e d (left [])
+pub finished-end : (e : ℕ) (d : List ℕ) → length d ≡ filterSlot → clearedFrom e d ≡ finished e d (left [])
 unfolding finished itemsWords
 finished-end e d h = ap (λ (r : List ℕ). take e d ++ r) (zeros (length d - e) (filterSlot - e - testWords * 0) (omega arith))
 
 -- What is still to do of the words from a place on.
 abbrev pub rest : ℕ → Fact → List ℕ → ℕ → Standing
 rest n k src j = cut n k (readItems (maxTests - j) (drop (testWords * j) src))
-
-pub rest-start : (n : ℕ) (k : Fact) (src : List ℕ) → rest n k src 0 ≡ cut n k (readItems maxTests src)
-rest-start n k src = refl
 
 pub rest-end : (n : ℕ) (k : Fact) (src : List ℕ) → rest n k src maxTests ≡ left []
 unfolding readItems cut
@@ -152,35 +140,34 @@ pub rest-stop : (n : ℕ) (k : Fact) (src : List ℕ) (j : ℕ) → j < maxTests
 unfolding readItems cut
 rest-stop n k src j h z = rw (more-left j h, eq-eqb (getD (drop (testWords * j) src) 0 0) 0 (head-at src (testWords * j) ∙ z))
 
-pub rest-more : (n : ℕ) (k : Fact) (src : List ℕ) (j : ℕ) → j < maxTests → (getD src (testWords * j) 0 ≡ 0 → ⊥) → rest n k src j ≡ join (getD src (testWords * j + 1) 0) (leftOf n k (itemOf (drop (testWords * j) src))) (rest n k src (j + 1))
+pub rest-more : (n : ℕ) (k : Fact) (src : List ℕ) (j : ℕ) → j < maxTests → (getD src (testWords * j) 0 ≡ 0 → ⊥) → rest n k src j ≡ join (itemOf (drop (testWords * j) src) .field) (leftOf n k (itemOf (drop (testWords * j) src))) (rest n k src (j + 1))
 unfolding readItems
 rest-more n k src j h z =
     let o = testWords * j in
     let e : testWords * (j + 1) ≡ testWords * j + testWords = omega arith in
     rw (more-left j h, ne-eqb (getD (drop o src) 0 0) 0 (λ (y : getD (drop o src) 0 0 ≡ 0). z (sym (head-at src o) ∙ y)), e, ← drop-drop testWords (testWords * j) src)
-    (cut-step n k (itemOf (drop o src)) (readItems (maxTests - (j + 1)) (drop testWords (drop o src))) ∙
-    ap (λ (f : ℕ). join f (leftOf n k (itemOf (drop o src))) (cut n k (readItems (maxTests - (j + 1)) (drop testWords (drop o src))))) (ap (λ (t : Item). t .field) (item-at src o)))
+    (cut-step n k (itemOf (drop o src)) (readItems (maxTests - (j + 1)) (drop testWords (drop o src))))
 
 -- ---- a turn of the loop over the tests
 
 module _
-    (n : ℕ) (k : Fact) (src d d' : List ℕ) (j e e' : ℕ) (r : Residue) (W : List ℕ)
+    (n : ℕ) (k : Fact) (src d d' : List ℕ) (j e e' f : ℕ) (r : Residue) (W : List ℕ)
     (more : j < maxTests) (test : getD src (testWords * j) 0 ≡ 0 → ⊥)
     (one : length d ≡ filterSlot) (fits : e ≤ testWords * j)
-    (is : r ≡ leftOf n k (itemOf (drop (testWords * j) src)))
-    (kept : Kept e (getD src (testWords * j + 1) 0) r d d' e')
+    (named : f ≡ itemOf (drop (testWords * j) src) .field) (is : r ≡ leftOf n k (itemOf (drop (testWords * j) src)))
+    (kept : Kept e f r d d' e')
     (whole : finished e d (rest n k src j) ≡ W)
   where
-    joined : finished e d (join (getD src (testWords * j + 1) 0) r (rest n k src (j + 1))) ≡ W
-    joined = ap (λ (x : Standing). finished e d x) (ap (λ (q : Residue). join (getD src (testWords * j + 1) 0) q (rest n k src (j + 1))) is ∙ sym (rest-more n k src j more test)) ∙ whole
+    joined : finished e d (join f r (rest n k src (j + 1))) ≡ W
+    joined = ap (λ (x : Standing). finished e d x) (ap₂ (λ (g : ℕ) (q : Residue). join g q (rest n k src (j + 1))) named is ∙ sym (rest-more n k src j more test)) ∙ whole
 
-    pub turn-out : filterSlot < e' → cleared e' d' ≡ W
+    pub turn-out : filterSlot < e' → clearedFrom e' d' ≡ W
     turn-out h =
-        ap₂ cleared (kept .behind) (kept .words) ∙
-        kept-out e (getD src (testWords * j + 1) 0) d r (rest n k src (j + 1)) (omega arith) (rw (kept .behind) at h) ∙ joined
+        ap₂ clearedFrom (kept .behind) (kept .words) ∙
+        kept-out e f d r (rest n k src (j + 1)) (omega arith) (rw (kept .behind) at h) ∙ joined
 
     turn-long : length d' ≡ filterSlot
-    turn-long = ap length (kept .words) ∙ kept-long e (getD src (testWords * j + 1) 0) d r one (omega arith)
+    turn-long = ap length (kept .words) ∙ kept-long e f d r one (omega arith)
 
     turn-le : e' ≤ filterSlot → e' ≤ testWords * (j + 1)
     turn-le h = omega (arith, kept .behind, kept-le e r (rw (kept .behind) at h))
@@ -188,7 +175,7 @@ module _
     turn-on : e' ≤ filterSlot → finished e' d' (rest n k src (j + 1)) ≡ W
     turn-on h =
         ap₂ (λ (a : ℕ) (b : List ℕ). finished a b (rest n k src (j + 1))) (kept .behind) (kept .words) ∙
-        kept-step e (getD src (testWords * j + 1) 0) d r (rest n k src (j + 1)) (omega arith) (rw (kept .behind) at h) ∙ joined
+        kept-step e f d r (rest n k src (j + 1)) (omega arith) (rw (kept .behind) at h) ∙ joined
 
     pub turn-again : e' ≤ filterSlot → (length d' ≡ filterSlot) × (j + 1 ≤ maxTests) × (e' ≤ testWords * (j + 1)) × (finished e' d' (rest n k src (j + 1)) ≡ W)
     turn-again h = (turn-long, omega arith, turn-le h, turn-on h)

@@ -13,7 +13,7 @@ use lib.Seq.{take-at, length-take-le, take-all, drop-drop}
 use Rattle.residue.specs.declared.Fact.{Fact}
 use Rattle.states.specs.States.{cutStanding}
 use Rattle.slots.specs.Words.{filterSlot, outWords, writtenFilter, readFilter}
-use Rattle.slots.specs.Slots.{closedIn, cutWords}
+use Rattle.slots.specs.inner.Slots.{closedIn, cutWords}
 
 -- ---- a part
 

@@ -10,7 +10,7 @@ use lib.Dec.{eqb}
 use lib.ListN.{getD, drop}
 use lib.Seq.{getD-drop}
 use Rattle.slots.specs.Words.{filterSlot, outMark}
-use Rattle.slots.specs.Slots.{hasTest, fourWords, questionIn}
+use Rattle.slots.specs.inner.Slots.{hasTest, fourWords, questionIn}
 use Rattle.slots.proofs.Parts.{one-less, next-drop}
 
 abbrev pub asks : ℕ → Bool

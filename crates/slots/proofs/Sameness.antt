@@ -9,7 +9,7 @@ use native.Mathlib.Omega.{arith}
 use borrow.Author.Tests.{eq-eqb, ne-eqb}
 use lib.ListN.{length, getD, drop, drop-of-length-le}
 use lib.Seq.{drop-cons}
-use Rattle.slots.specs.Slots.{sameWords}
+use Rattle.slots.specs.inner.Slots.{sameWords}
 
 pub same-more : (a b : List ℕ) (i : ℕ) → length a ≡ length b → i < length a → getD a i 0 ≡ getD b i 0 → sameWords (drop i a) (drop i b) ≡ sameWords (drop (i + 1) a) (drop (i + 1) b)
 unfolding sameWords

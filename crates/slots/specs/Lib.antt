@@ -1,6 +1,3 @@
 pub mod Words
-pub mod Slots
-pub mod Steps
-pub mod Fitting
-pub mod Reading
-pub mod Laws
+pub mod laws
+pub mod inner

@@ -1,5 +1,6 @@
 -- A state as the words of one slot: 32 words a filter, its remaining tests first, four words each, zeros behind; the mark 5 first where it is out.
 --   filterSlot, slotWords   words a filter and words a slot (document 01, "States and the table": a fixed number, at most 1,024)
+--   questionWords a         the words of a question; zeros where nothing is asked
 --   writtenFilter x         the words of a standing
 --   written s               the words of a state
 --   readFilter c            the standing that the words of a filter say, whatever they are
@@ -9,9 +10,9 @@ use mathlib.Core.Bool.{cond}
 use mathlib.Core.List.{List, [], _∷_, _++_}
 use lib.Dec.{eqb}
 use lib.ListN.{length, getD, take, drop, replicate}
-use Rattle.lists.specs.Filters.{Item, maxFilters, maxTests, testWords, itemOf}
-use Rattle.lists.specs.Accepted.{itemWords}
-use Rattle.states.specs.States.{Standing, out, left, State}
+use Rattle.lists.specs.Filters.{Item, maxFilters, maxTests, testWords, kindAtLeast, itemOf}
+use Rattle.lists.specs.Words.{itemWords}
+use Rattle.states.specs.States.{Standing, out, left, State, Question, nothing, ask}
 
 abbrev pub filterSlot : ℕ
 filterSlot = maxTests * testWords
@@ -19,9 +20,13 @@ filterSlot = maxTests * testWords
 abbrev pub slotWords : ℕ
 slotWords = maxFilters * filterSlot
 
+unfoldable pub questionWords : Question → List ℕ
+questionWords nothing = 0 ∷ 0 ∷ 0 ∷ 0 ∷ []
+questionWords (ask q) = itemWords q
+
 -- No kind: the first word of a filter that is out. The first word of a held filter is 0.
 abbrev pub outMark : ℕ
-outMark = 5
+outMark = kindAtLeast + 1
 
 unfoldable pub itemsWords : List Item → List ℕ
 itemsWords [] = []

@@ -1,39 +1,26 @@
-// One filter's 32 words.
+// One filter's words.
 ghost use mathlib.Core.Path.{_≡_};
 ghost use Prim.Native.Nat.{_+_, _*_, _≤_};
 ghost use lib.ListN.{length, take, drop};
 ghost use mathlib.Core.List.{_∷_, []};
-ghost use Rattle.lists.specs.Filters.{testWords, testOf, itemOf, itemsOf};
-ghost use Rattle.lists.specs.Accepted.{itemWords};
+ghost use Rattle.lists.specs.Filters.{testWords, itemOf, itemsOf};
+ghost use Rattle.lists.specs.Words.{itemWords};
 ghost use Rattle.states.specs.States.{cutStanding, left};
 ghost use Rattle.slots.specs.Words.{filterSlot, itemsWords, outWords, writtenFilter, readFilter};
-ghost use Rattle.slots.specs.Steps.{over, cleared, item, leftOf, Room, Kept, Two, Cut, Tests};
+ghost use Rattle.slots.specs.inner.Steps.{over, clearedFrom, item, leftOf, Room, Kept, Two, Cut, Tests};
+use crate::FILTER_WORDS;
+use lists::MAX_TESTS;
+use lists::TEST_WORDS;
+use lists::field_at;
+use lists::test_at;
 use residue::Fact;
 use residue::Residue;
 use residue::Test;
 
-// Words a filter, words a test, tests a filter, and the first word of a filter that is out (specs/Words).
-pub const FILTER_WORDS: usize = 32;
-
-pub const TEST_WORDS: usize = 4;
-
-const MAX_TESTS: usize = 8;
-
-pub const OUT: u32 = 5;
+// The first word of a filter that is out (specs/Words): no kind.
+pub const OUT: u32 = lists::AT_LEAST + 1;
 // A place beyond every filter's words.
-const PAST_END: usize = 33;
-
-// The test that the words kind, mask and value say; a kind that is none reads as the last.
-pub fn test_of(kind: u32, mask: u32, value: u32) -> Test
-    ensures { λ r. ⌜ r ≡ testOf kind mask value ⌝ }
-{
-    match kind {
-        1 => Test::Equal(mask, value),
-        2 => Test::Differs(mask, value),
-        3 => Test::AtMost(value),
-        _ => Test::AtLeast(value),
-    }
-}
+const PAST_END: usize = FILTER_WORDS + 1;
 
 // Four words from a place on.
 fn put_words(dst: &mut [u32], at: usize, kind: u32, field: u32, mask: u32, value: u32)
@@ -41,9 +28,9 @@ fn put_words(dst: &mut [u32], at: usize, kind: u32, field: u32, mask: u32, value
     ensures { λ _. ⌜ now (dst .exit) ≡ over at (kind ∷ field ∷ mask ∷ value ∷ []) (now (dst .entry)) ⌝ }
 {
     dst[at] = kind;
-    dst[at + 1] = field;
-    dst[at + 2] = mask;
-    dst[at + 3] = value;
+    dst[at + lists::FIELD_AT] = field;
+    dst[at + lists::MASK_AT] = mask;
+    dst[at + lists::VALUE_AT] = value;
 }
 
 // The words of a test from a place on; at most and at least have no mask.
@@ -52,16 +39,16 @@ pub fn put_test(dst: &mut [u32], at: usize, field: u32, test: Test)
     ensures { λ _. ⌜ now (dst .exit) ≡ over at (itemWords (item field test)) (now (dst .entry)) ⌝ }
 {
     match test {
-        Test::Equal(m, v) => put_words(dst, at, 1, field, m, v),
-        Test::Differs(m, v) => put_words(dst, at, 2, field, m, v),
-        Test::AtMost(v) => put_words(dst, at, 3, field, 0, v),
-        Test::AtLeast(v) => put_words(dst, at, 4, field, 0, v),
+        Test::Equal(m, v) => put_words(dst, at, lists::EQUAL, field, m, v),
+        Test::Differs(m, v) => put_words(dst, at, lists::DIFFERS, field, m, v),
+        Test::AtMost(v) => put_words(dst, at, lists::AT_MOST, field, 0, v),
+        Test::AtLeast(v) => put_words(dst, at, lists::AT_LEAST, field, 0, v),
     }
 }
 
 // Zeros from a place on; nothing where the place lies beyond the words.
 pub fn clear_from(dst: &mut [u32], from: usize)
-    ensures { λ _. ⌜ now (dst .exit) ≡ cleared from (now (dst .entry)) ⌝ }
+    ensures { λ _. ⌜ now (dst .exit) ≡ clearedFrom from (now (dst .entry)) ⌝ }
 {
     let mut i = from;
     while i < dst.len() {
@@ -84,8 +71,8 @@ fn left_of(src: &[u32], at: usize, field: u32, fact: Fact) -> Residue
     requires { ⌜ at + testWords ≤ length (now src) ⌝ }
     ensures { λ r. ⌜ r ≡ leftOf field fact (itemOf (drop at (now (src .entry)))) ⌝ }
 {
-    let test = test_of(src[at], src[at + 2], src[at + 3]);
-    if src[at + 1] == field {
+    let test = test_at(src, at);
+    if field_at(src, at) == field {
         residue::residue_of(fields::full_of(field), fact, test)
     } else {
         Residue::Left(test)
@@ -122,7 +109,7 @@ fn cut_tests(src: &[u32], dst: &mut [u32], field: u32, fact: Fact) -> usize
         if src[at] == 0 {
             return end;
         }
-        end = keep(dst, end, src[at + 1], left_of(src, at, field, fact));
+        end = keep(dst, end, field_at(src, at), left_of(src, at, field, fact));
         if FILTER_WORDS < end {
             return end;
         }
@@ -153,8 +140,7 @@ fn put_tests(list: &[u32], at: usize, count: usize, dst: &mut [u32])
     while test < count {
         let to = TEST_WORDS * test;
         let from = at + to;
-        let read = test_of(list[from], list[from + 2], list[from + 3]);
-        put_test(dst, to, list[from + 1], read);
+        put_test(dst, to, field_at(list, from), test_at(list, from));
         test += 1;
     }
 }

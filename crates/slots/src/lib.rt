@@ -1,27 +1,32 @@
-// A state as the words of one slot: 32 words a filter, its remaining tests first, zeros behind (specs/Words).
+// A state as the words of one slot: as many words for each filter, its remaining tests first, zeros behind (specs/Words).
 // n is the number of filters; the slices hold the words of exactly these.
 ghost use mathlib.Core.Path.{_≡_};
 ghost use mathlib.Core.Bool.{cond};
-ghost use mathlib.Core.List.{_∷_, [], _++_, map};
-ghost use Prim.Native.Nat.{_+_, _*_, _≤_};
-ghost use lib.ListN.{length, drop, getD};
+ghost use mathlib.Core.List.{_∷_, [], map};
+ghost use Prim.Native.Nat.{_*_, _≤_};
+ghost use lib.ListN.{length};
 ghost use Rattle.lists.specs.Filters.{filtersOf, itemOf};
 ghost use Rattle.states.specs.States.{allLeft};
-ghost use Rattle.slots.specs.Words.{filterSlot, outWords, written, writtenFilter};
-ghost use Rattle.slots.specs.Slots.{heldSet, outSetIn, sureSetIn, closedIn, closedWords, questionIn, cutWords, stepQuestion, startWords, freshWords, sameWords};
-ghost use Rattle.slots.specs.Steps.{freshLength, markedSet, State, Ranked, Both, Stepped, Recorded, Starts};
-use filter::FILTER_WORDS;
+ghost use Rattle.slots.specs.Words.{filterSlot, outWords, written};
+ghost use Rattle.slots.specs.inner.Slots.{heldSet, outSetIn, sureSetIn, closedIn, closedWords, questionIn, cutWords, stepQuestion, startWords, sameWords};
+ghost use Rattle.slots.specs.inner.Steps.{markedSet, State, Ranked, Both, Stepped, Starts};
 use filter::OUT;
-use filter::TEST_WORDS;
+use lists::HEAD_WORDS;
+use lists::MAX_FILTERS;
+use lists::MAX_TESTS;
+use lists::TEST_WORDS;
 use residue::Fact;
 use residue::Outcome;
+use sets::Set;
 
 mod filter;
 
+// The words of a filter, and of a slot.
+pub const FILTER_WORDS: usize = MAX_TESTS * TEST_WORDS;
+
+pub const SLOT_WORDS: usize = MAX_FILTERS * FILTER_WORDS;
 // The first word of a held filter.
 const HELD: u32 = 0;
-// The words of a list before a filter's tests.
-const HEAD_WORDS: usize = 3;
 
 // The words of a test; all 0 where there is none to ask.
 pub struct Question {
@@ -32,11 +37,11 @@ pub struct Question {
 }
 
 // The filters whose first word is a mark.
-fn marked(w: &[u32], n: usize, mark: u32) -> u32
+fn marked(w: &[u32], n: usize, mark: u32) -> Set
     requires { ⌜ State n (now w) ⌝ }
     ensures { λ r. ⌜ r ≡ markedSet n mark (now (w .entry)) ⌝ }
 {
-    let mut set: u32 = 0;
+    let mut set: Set = 0;
     let mut i: usize = 0;
     while i < n {
         set = sets::put(set, i as u32, w[FILTER_WORDS * i] == mark);
@@ -45,14 +50,14 @@ fn marked(w: &[u32], n: usize, mark: u32) -> u32
     set
 }
 
-pub fn held_set(w: &[u32], n: usize) -> u32
+pub fn held_set(w: &[u32], n: usize) -> Set
     requires { ⌜ State n (now w) ⌝ }
     ensures { λ r. ⌜ r ≡ heldSet n (now (w .entry)) ⌝ }
 {
     marked(w, n, HELD)
 }
 
-pub fn out_set(w: &[u32], n: usize) -> u32
+pub fn out_set(w: &[u32], n: usize) -> Set
     requires { ⌜ State n (now w) ⌝ }
     ensures { λ r. ⌜ r ≡ outSetIn n (now (w .entry)) ⌝ }
 {
@@ -70,7 +75,7 @@ fn stay(w: &mut [u32], stays: bool)
 }
 
 // Each filter that ranks below one of the held set made out.
-fn close_by(w: &mut [u32], n: usize, ranks: &[u32], held: u32)
+fn close_by(w: &mut [u32], n: usize, ranks: &[Set], held: Set)
     requires { ⌜ Ranked n (now ranks) (now w) ⌝ }
     ensures { λ _. ⌜ now (w .exit) ≡ closedIn n (now (ranks .entry)) held 0 (now (w .entry)) ⌝ }
 {
@@ -85,7 +90,7 @@ fn close_by(w: &mut [u32], n: usize, ranks: &[u32], held: u32)
 }
 
 // Each filter that ranks below a held one made out.
-pub fn close(w: &mut [u32], n: usize, ranks: &[u32])
+pub fn close(w: &mut [u32], n: usize, ranks: &[Set])
     requires { ⌜ Ranked n (now ranks) (now w) ⌝ }
     ensures { λ _. ⌜ now (w .exit) ≡ closedWords n (now (ranks .entry)) (now (w .entry)) ⌝ }
 {
@@ -108,12 +113,12 @@ fn cut_all(src: &[u32], dst: &mut [u32], n: usize, field: u32, fact: Fact)
 }
 
 // Held, and every filter that ranks above it is out.
-pub fn sure_set(w: &[u32], n: usize, ranks: &[u32]) -> u32
+pub fn sure_set(w: &[u32], n: usize, ranks: &[Set]) -> Set
     requires { ⌜ Ranked n (now ranks) (now w) ⌝ }
     ensures { λ r. ⌜ r ≡ sureSetIn n (now (ranks .entry)) (now (w .entry)) ⌝ }
 {
     let out = out_set(w, n);
-    let mut set: u32 = 0;
+    let mut set: Set = 0;
     let mut i: usize = 0;
     while i < n {
         let sure = (w[FILTER_WORDS * i] == HELD) & (ranks[i] & !out == 0);
@@ -135,9 +140,9 @@ pub fn question_of(w: &[u32], n: usize) -> Question
         if (kind != HELD) & (kind != OUT) {
             return Question {
                 kind,
-                field: w[at + 1],
-                mask: w[at + 2],
-                value: w[at + 3],
+                field: w[at + lists::FIELD_AT],
+                mask: w[at + lists::MASK_AT],
+                value: w[at + lists::VALUE_AT],
             };
         }
         i += 1;
@@ -155,7 +160,7 @@ pub fn step_by(
     src: &[u32],
     dst: &mut [u32],
     n: usize,
-    ranks: &[u32],
+    ranks: &[Set],
     asked: Question,
     outcome: Outcome,
 )
@@ -163,27 +168,10 @@ pub fn step_by(
     ensures { λ _. ⌜ now (dst .exit) ≡ stepQuestion n (now (ranks .entry)) outcome (itemOf (asked .kind ∷ asked .field ∷ asked .mask ∷ asked .value ∷ [])) (now (src .entry)) ⌝ }
 {
     let field = asked.field;
-    let test = filter::test_of(asked.kind, asked.mask, asked.value);
+    let test = lists::test_of(asked.kind, asked.mask, asked.value);
     let fact = residue::fact_of(fields::full_of(field), outcome, test);
     cut_all(src, dst, n, field, fact);
     close(dst, n, ranks);
-}
-
-// The first nine words of a record: the question, no next states yet, the sure set and the out set.
-pub fn write_record(w: &[u32], n: usize, ranks: &[u32], rec: &mut [u32])
-    requires { ⌜ Recorded n (now ranks) (now w) (now rec) ⌝ }
-    ensures { λ _. ⌜ now (rec .exit) ≡ freshWords n (now (ranks .entry)) (now (w .entry)) ++ drop freshLength (now (rec .entry)) ⌝ }
-{
-    let asked = question_of(w, n);
-    rec[0] = asked.kind;
-    rec[1] = asked.field;
-    rec[2] = asked.mask;
-    rec[3] = asked.value;
-    rec[4] = 0;
-    rec[5] = 0;
-    rec[6] = 0;
-    rec[7] = sure_set(w, n, ranks);
-    rec[8] = out_set(w, n);
 }
 
 // The same words; the first that differ decide.
@@ -211,16 +199,15 @@ fn fill_all(list: &[u32], dst: &mut [u32], n: usize)
     while i < n {
         let from = FILTER_WORDS * i;
         let to = from + FILTER_WORDS;
-        let count = list[at + 2] as usize;
-        let tests = at + HEAD_WORDS;
-        filter::fill(list, tests, count, &mut dst[from..to]);
-        at = tests + TEST_WORDS * count;
+        let count = lists::count_at(list, at);
+        filter::fill(list, at + HEAD_WORDS, count as usize, &mut dst[from..to]);
+        at += lists::filter_words(count);
         i += 1;
     }
 }
 
 // The start of an accepted list of n filters.
-pub fn start_into(list: &[u32], dst: &mut [u32], n: usize, ranks: &[u32])
+pub fn start_into(list: &[u32], dst: &mut [u32], n: usize, ranks: &[Set])
     requires { ⌜ Starts n (now list) (now dst) ⌝ }
     requires { ⌜ n ≤ length (now ranks) ⌝ }
     ensures { λ _. ⌜ now (dst .exit) ≡ startWords n (now (ranks .entry)) (now (list .entry)) ⌝ }

@@ -6,7 +6,7 @@
 --   Path fs r n s t          a path of that frame, by n remaining tests
 --   Free                     the question is one of the remaining tests, whatever its outcome
 use Prim.Native.Nat.{ℕ, zero, suc}
-use mathlib.Core.Path.{_≡_, refl, sym, subst}
+use mathlib.Core.Path.{_≡_, sym, subst}
 use mathlib.Core.Bool.{Bool, true, false, _||_}
 use mathlib.Core.List.{List, [], _∷_}
 use Rattle.residue.specs.declared.Reading.{Reading}
@@ -43,11 +43,6 @@ Path fs r n s t = Leads fs (OfFrame r Chosen) n s t
 
 abbrev pub Free : Item → Outcome → State → Type 0
 Free q o s = Chosen q s
-
--- Where one of two tests holds.
-pub either : (P : Type 0) (a b : Bool) → (a ≡ true → P) → (b ≡ true → P) → (a || b) ≡ true → P
-either P true b f g e = f refl
-either P false b f g e = g e
 
 -- What each question keeps, all of them keep.
 pub leads-keeps :

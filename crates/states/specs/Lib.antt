@@ -1,15 +1,5 @@
 pub mod States
 pub mod Runs
-pub mod Standings
 pub mod Same
 pub mod Choices
-pub mod Keeps
-pub mod Every
-pub mod Well
-pub mod Measure
-pub mod Truth
-pub mod Sure
-pub mod Stays
-pub mod Paths
-pub mod Asked
-pub mod Laws
+pub mod laws

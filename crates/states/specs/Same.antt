@@ -9,9 +9,9 @@ use mathlib.Core.List.{List, [], _∷_}
 use Prim.Native.Nat.{ℕ}
 use lib.Dec.{eqb}
 use borrow.Author.Tests.{eqb-true, eq-eqb}
-use Rattle.residue.specs.Choice.{both, first, second}
+use Rattle.residue.specs.laws.Choice.{both, first, second}
 use Rattle.residue.specs.Relations.{sameTest}
-use Rattle.residue.specs.Laws.{same-test-eq, same-test-refl}
+use Rattle.residue.specs.laws.Narrowing.{same-test-eq, same-test-refl}
 use Rattle.residue.specs.declared.Test.{Test}
 use Rattle.lists.specs.Filters.{Item}
 use Rattle.states.specs.States.{Standing, out, left, State}

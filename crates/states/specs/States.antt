@@ -9,8 +9,8 @@
 --   stepBy fs o q s   the state after the question q came to o
 --   sure, isOut, isOpen   of a filter in a state; sureSet, outSet as bit sets
 --   remaining s       how many tests remain
-use Prim.Native.Nat.{ℕ, zero, suc, _+_}
-use mathlib.Core.Bool.{Bool, true, false, cond, not, _&&_, _||_}
+use Prim.Native.Nat.{ℕ, _+_}
+use mathlib.Core.Bool.{Bool, true, false, cond, not, _&&_}
 use mathlib.Core.List.{List, [], _∷_, map}
 use lib.Dec.{ltb, eqb}
 use lib.ListN.{length, getD}

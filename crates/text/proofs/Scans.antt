@@ -3,16 +3,16 @@
 --   scan p bs      what the bytes give from the place on
 --   judged is      what the items give
 --   scan-text      from the text's start these are the same
-use Prim.Native.Nat.{ℕ, _+_, _-_, _*_, _≤_, _<_}
+use Prim.Native.Nat.{ℕ, _+_, _-_, _*_, _≤_}
 use mathlib.Core.Path.{_≡_, refl, sym, ap, _∙_}
-use mathlib.Core.Bool.{Bool, true, false, cond, _&&_, and-assoc, and-false, and-eq-true-iff}
+use mathlib.Core.Bool.{Bool, true, false, _&&_, and-assoc, and-false, and-eq-true-iff}
 use mathlib.Core.List.{List, [], _∷_, _++_, append-assoc, append-nil}
 use native.Mathlib.Omega.{arith}
 use native.Mathlib.Nat.{le-refl}
 use lib.Dec.{leb}
 use borrow.Author.Tests.{leb-true, leb-false, lt-leb}
 use Rattle.text.specs.Text.{maxWord, separates, runs, onto, full, items, isDigit, digitsOnly, spelled, valueOf, isNumber, allNumbers, numbers}
-use Rattle.text.specs.Steps.{valueAt, ended, more, step}
+use Rattle.text.specs.inner.Steps.{more, step}
 use Rattle.text.specs.declared.Place.{Place}
 use Rattle.text.specs.declared.Place.the-variants.{Between, Inside}
 use Rattle.text.specs.declared.Step.{Step}

@@ -2,18 +2,18 @@
 --   held p         how many bytes of the item are read at least
 --   put ws s       the words ws, then those of the scan
 --   Reading        the words read so far and the scan of the bytes left are the scan of the text
-use Prim.Native.Nat.{ℕ, suc, _+_, _-_, _*_, _≤_, _<_}
+use Prim.Native.Nat.{ℕ, _+_, _-_, _*_, _≤_, _<_}
 use mathlib.Core.Path.{_≡_, refl, sym, ap, _∙_}
 use mathlib.Core.Bool.{Bool, true, false, cond, false≢true}
-use mathlib.Core.List.{List, [], _∷_, _++_, append-assoc, append-nil}
+use mathlib.Core.List.{List, [], _∷_, _++_, append-nil}
 use native.Mathlib.Numerals.{add-one}
 use native.Mathlib.Omega.{arith}
-use lib.Dec.{leb, ltb}
-use lib.ListN.{length, take, drop, set, getD, length-take, length-set, take-append-drop, drop-of-length-le}
+use lib.Dec.{leb}
+use lib.ListN.{length, take, drop, set, getD, length-set, take-append-drop, drop-of-length-le}
 use lib.Seq.{drop-cons, take-suc-set, drop-set-lt, drop-drop, length-take-le, append-snoc}
 use borrow.Author.Tests.{le-ltb, lt-ltb}
-use Rattle.text.specs.Text.{maxText, maxItems, maxWord, separates, isDigit, items, numbers, allNumbers, tooLong, accepted, wordsOf, counted, shown, readOf, Reads}
-use Rattle.text.specs.Steps.{valueAt, ended, more, step}
+use Rattle.text.specs.Text.{maxText, maxItems, maxWord, separates, isDigit, tooLong, accepted, wordsOf, counted, shown, readOf, Reads}
+use Rattle.text.specs.inner.Steps.{more, step}
 use Rattle.text.specs.declared.Place.{Place}
 use Rattle.text.specs.declared.Place.the-variants.{Between, Inside}
 use Rattle.text.specs.declared.Step.{Step}

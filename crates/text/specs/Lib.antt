@@ -1,3 +1,3 @@
 pub mod Text
-pub mod Steps
-pub mod Laws
+pub mod laws
+pub mod inner

@@ -7,10 +7,11 @@ use native.Mathlib.Omega.{arith}
 use lib.ListN.{length}
 use denote.Ref.{now}
 use Rattle.lists.specs.Filters.{filtersOf}
-use Rattle.lists.specs.Laws.{length-rankSets}
+use Rattle.lists.specs.laws.Ranking.{length-rankSets}
+use Rattle.words.specs.Lent.{cleared}
 use Rattle.tables.specs.Tables.{recordWords, slotsOf}
-use Rattle.builder.specs.Outcome.{Answered, accepted, cleared}
-use Rattle.builder.specs.Finished as F
+use Rattle.builder.specs.Outcome.{Answered, accepted}
+use Rattle.builder.specs.laws.Finished as F
 use Rattle.builder.specs.declared.Built.the-variants as B
 use borrow.Author.Needs.{needs}
 use Rattle.builder.proofs.build_accepted.Statement.{statement}
@@ -52,8 +53,8 @@ mul-clear c = search needs
 clear-requires : tie.Need-clear-requires
 clear-requires c κs = search needs
 
-enum-known-room : tie.Need-enum-known-room
-enum-known-room c = search needs
+enum-known-extent : tie.Need-enum-known-extent
+enum-known-extent c = search needs
 
 cast-t23 : tie.Need-cast-t23
 unfolding slotsOf
@@ -63,7 +64,7 @@ cast-t23 c =
     let q = k .before .before .before in
     let s = q .before .before .before .before in
     let a = s .args in
-    let u = c .before .room .given in
+    let u = c .before .extent .given in
     omega (arith, F.few-states (now (a .list)) (a .n) (k .rank-sets .last .1 .0) (now (a .table)) (now (a .scratch)) (q .slots-of .result) (s .pre) (q .slots-of .ensures) (k .rank-sets .ensures) (k .before .before .if1 .left) (v .place-start .result) (v .place-start .last .1 .1 .1 .1 .0) (v .place-start .last .1 .1 .1 .1 .1 .0) (v .place-start .ensures) (u .0 .0) (u .1))
 
 enum-told : tie.Need-enum-told
@@ -90,7 +91,7 @@ returns-2 c =
     let q = k .before .before .before in
     let s = q .before .before .before .before in
     let a = s .args in
-    let u = c .before .room .given in
+    let u = c .before .extent .given in
     subst (λ (x : List ℕ). Answered (accepted (filtersOf (now (a .list))) (now (a .table)) (now (a .scratch))) (B.States (u .0 .0)) (v .place-start .last .1 .1 .1 .1 .0) x) (sym (w .clear .ensures))
     (F.finished (now (a .list)) (a .n) (k .rank-sets .last .1 .0) (now (a .table)) (now (a .scratch)) (q .slots-of .result) (s .pre) (q .slots-of .ensures) (k .rank-sets .ensures) (k .before .before .if1 .left) (v .place-start .result) (v .place-start .last .1 .1 .1 .1 .0) (v .place-start .last .1 .1 .1 .1 .1 .0) (v .place-start .ensures) (u .0 .0) (u .1) (v .place-start .kept .1 .1 .1 .1 .0))
 
@@ -113,7 +114,7 @@ returns-3 c =
     let a = s .args in
     subst (λ (y : List ℕ). Answered (accepted (filtersOf (now (a .list))) (now (a .table)) (now (a .scratch))) (B.Refused 11 0) y (w .clear .last .0)) (sym (x .clear2 .ensures))
     (subst (λ (y : List ℕ). Answered (accepted (filtersOf (now (a .list))) (now (a .table)) (now (a .scratch))) (B.Refused 11 0) (cleared (recordWords * q .slots-of .result) (v .place-start .last .1 .1 .1 .1 .0)) y) (sym (w .clear .ensures))
-    (F.finished-full (now (a .list)) (a .n) (k .rank-sets .last .1 .0) (now (a .table)) (now (a .scratch)) (q .slots-of .result) (s .pre) (q .slots-of .ensures) (k .rank-sets .ensures) (k .before .before .if1 .left) (v .place-start .result) (v .place-start .last .1 .1 .1 .1 .0) (v .place-start .last .1 .1 .1 .1 .1 .0) (v .place-start .ensures) (e .enum-told .given .1)))
+    (F.finished-slotless (now (a .list)) (a .n) (k .rank-sets .last .1 .0) (now (a .table)) (now (a .scratch)) (q .slots-of .result) (s .pre) (q .slots-of .ensures) (k .rank-sets .ensures) (k .before .before .if1 .left) (v .place-start .result) (v .place-start .last .1 .1 .1 .1 .0) (v .place-start .last .1 .1 .1 .1 .1 .0) (v .place-start .ensures) (e .enum-told .given .1)))
 
 pub build-accepted-spec : {M : Type 1} → statement M
 build-accepted-spec =
@@ -127,7 +128,7 @@ build-accepted-spec =
     place-start-requires
     mul-clear
     clear-requires
-    enum-known-room
+    enum-known-extent
     cast-t23
     enum-told
     mul-clear-2

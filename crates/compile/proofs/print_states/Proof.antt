@@ -1,7 +1,6 @@
 -- `compile::print_states` is safe and ends: the record of each state that is left lies in the table. The measure is the number of states left.
 -- Assumes nothing.
 use Prim.Native.Nat.{_-_, _≤_}
-use lib.ListN.{length}
 use borrow.Author.Needs.{needs}
 use Rattle.compile.proofs.print_states.Statement.{statement}
 use Rattle.compile.proofs.print_states.Tie as tie

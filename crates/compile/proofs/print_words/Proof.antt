@@ -1,6 +1,6 @@
 -- `compile::print_words` is safe and ends. Nothing has to hold from turn to turn. The measure is the number of words left.
 -- Assumes nothing.
-use Prim.Native.Nat.{_-_, _≤_}
+use Prim.Native.Nat.{_-_}
 use lib.ListN.{length}
 use borrow.Author.Needs.{needs}
 use Rattle.compile.proofs.print_words.Statement.{statement}

@@ -7,8 +7,8 @@ use mathlib.Core.Path.{_≡_, refl, sym, ap₂, _∙_}
 use native.Mathlib.Nat.{le-refl}
 use native.Mathlib.Omega.{arith}
 use Rattle.sets.specs.Sets.{bit, setOf, tally}
-use Rattle.sets.specs.Laws.{tally-bound, tally-put}
-use Rattle.lists.specs.Ranks.{aboveBy}
+use Rattle.sets.specs.laws.Members.{tally-bound, tally-put}
+use Rattle.lists.specs.inner.Columns.{aboveBy}
 use borrow.Author.Needs.{needs}
 use Rattle.lists.proofs.above_set.Statement.{statement}
 use Rattle.lists.proofs.above_set.Tie as tie

@@ -7,9 +7,10 @@ use mathlib.Core.Path.{_≡_, refl, sym, ap, _∙_}
 use native.Mathlib.Omega.{arith}
 use lib.ListN.{length, drop, drop-of-length-le}
 use Rattle.lists.specs.Refusals.{filterFault, listedFrom, listed}
-use Rattle.lists.specs.Laws.{listed-end}
+use Rattle.lists.specs.laws.Faults.{no-fault}
+use Rattle.lists.specs.laws.Walking.{listed-end, Here, sound-here}
 use Rattle.lists.specs.declared.Listed.the-variants.{Refused}
-use Rattle.lists.proofs.Turns.{list-turn, list-found, list-over, rest-is, Passed, passed}
+use Rattle.lists.proofs.Turns.{list-turn, list-found, list-over, rest-is}
 use borrow.Author.Needs.{needs}
 use Rattle.lists.proofs.check.Statement.{statement}
 use Rattle.lists.proofs.check.Tie as tie
@@ -28,18 +29,14 @@ fault-here : (c : tie.After-filter-fault Inv-loop μ-loop) →
 fault-here c = c .filter-fault .ensures ∙ ap filterFault (rest-is (c .before .before .before .before .loop .at) (c .before .before .before .before .before .before .args .list .now))
 
 passed-here : (c : tie.Else2 Inv-loop μ-loop) →
-    Passed (c .before .before .before .before .before .before .before .args .list .now) (c .before .before .before .before .before .loop .at)
+    Here (c .before .before .before .before .before .before .before .args .list .now) (c .before .before .before .before .before .loop .at)
 passed-here c =
-    passed (c .before .before .before .before .before .before .before .args .list .now) (c .before .before .before .before .before .loop .at)
-    (c .before .before .before .before .loop-test .taken)
-    (sym (fault-here (c .before)) ∙ c .if2 .left)
+    sound-here (c .before .before .before .before .before .before .before .args .list .now) (c .before .before .before .before .before .loop .at)
+    (no-fault _ (sym (fault-here (c .before)) ∙ c .if2 .left))
 
 loop-holds : tie.Need-loop-holds Inv-loop μ-loop
 unfolding listed
 loop-holds c = (omega arith, omega arith, omega arith, refl)
-
-cast-if1 : tie.Need-cast-if1 Inv-loop μ-loop
-cast-if1 c = omega arith
 
 returns : tie.Need-returns Inv-loop μ-loop
 returns c =
@@ -69,47 +66,37 @@ returns-2 c =
     sym (list-found l (p .at) (p .filters) (p .tests) (omega (arith, p .inv .1, c .before .before .before .if1 .left)) (c .before .before .before .before .loop-test .taken) (λ (e : filterFault (drop (p .at) l) ≡ 0). c .if2 .taken (fault-here (c .before) ∙ e))) ∙
     p .inv .3
 
-add-count : tie.Need-add-count Inv-loop μ-loop
-add-count c = omega (arith, passed-here c)
+count-at-requires : tie.Need-count-at-requires Inv-loop μ-loop
+count-at-requires c κs = search needs
 
-mul-count : tie.Need-mul-count Inv-loop μ-loop
-mul-count c = omega (arith, passed-here c)
-
-shared-slice-read-count : tie.Need-shared-slice-read-count Inv-loop μ-loop
-shared-slice-read-count c = omega (arith, passed-here (c .before))
-
-cast-at : tie.Need-cast-at Inv-loop μ-loop
-cast-at c = omega (arith, passed-here (c .before))
-
-mul-at : tie.Need-mul-at Inv-loop μ-loop
-mul-at c = omega (arith, passed-here (c .before))
+filter-words-requires : tie.Need-filter-words-requires Inv-loop μ-loop
+filter-words-requires c κs = search needs
 
 add-at : tie.Need-add-at Inv-loop μ-loop
-add-at c = omega (arith, passed-here (c .before))
-
-add-at-2 : tie.Need-add-at-2 Inv-loop μ-loop
-add-at-2 c = omega (arith, passed-here (c .before))
+add-at c = omega (arith, passed-here (c .before .before), c .filter-words .ensures, c .before .count-at .ensures)
 
 add-tests : tie.Need-add-tests Inv-loop μ-loop
-add-tests c = omega (arith, passed-here (c .before))
+add-tests c = omega (arith, passed-here (c .before .before), c .before .count-at .ensures)
 
 add-filters : tie.Need-add-filters Inv-loop μ-loop
 add-filters c = omega arith
 
 loop-less : tie.Need-loop-less Inv-loop μ-loop
-loop-less c = omega (arith, passed-here (c .before))
+loop-less c = omega (arith, passed-here (c .before .before), c .filter-words .ensures)
 
 loop-again : tie.Need-loop-again Inv-loop μ-loop
 loop-again c =
-    let d = c .before .before in
+    let b = c .before .before in
+    let d = b .before in
     let p = d .before .before .before .before .loop in
     let l = d .before .before .before .before .before .before .args .list .now in
-    let q = passed-here (c .before) in
-    let h : p .filters < maxFilters = omega (arith, p .inv .1, d .before .before .if1 .left) in (
+    let q = passed-here b in
+    let h : p .filters < maxFilters = omega (arith, p .inv .1, d .before .before .if1 .left) in
+    rw (c .filter-words .ensures, c .before .count-at .ensures) (
       q .whole,
       omega arith,
       omega (arith, p .inv .2, q .count),
-      sym (list-turn l (p .at) (p .filters) (p .tests) h (d .before .before .before .loop-test .taken) (sym (fault-here d) ∙ c .before .if2 .left)) ∙ p .inv .3,
+      sym (list-turn l (p .at) (p .filters) (p .tests) h (d .before .before .before .loop-test .taken) (sym (fault-here d) ∙ b .if2 .left)) ∙ p .inv .3,
     )
 
 returns-3 : tie.Need-returns-3 Inv-loop μ-loop
@@ -125,7 +112,6 @@ check-spec =
     Inv-loop
     μ-loop
     loop-holds
-    cast-if1
     returns
     mul-filter-fault
     sub-filter-fault
@@ -133,13 +119,9 @@ check-spec =
     part-filter-fault-end
     filter-fault-requires
     returns-2
-    add-count
-    mul-count
-    shared-slice-read-count
-    cast-at
-    mul-at
+    count-at-requires
+    filter-words-requires
     add-at
-    add-at-2
     add-tests
     add-filters
     loop-less

@@ -6,13 +6,13 @@ use mathlib.Core.Path.{sym, _∙_}
 use Prim.Native.Nat.{_-_}
 use native.Mathlib.Omega.{arith}
 use lib.ListN.{length}
-use Rattle.lists.proofs.Columns.{Reading, reading-start, reading-turn, reading-end, goes-on}
+use Rattle.lists.proofs.Columns.{Partway, partway-start, partway-turn, partway-end, goes-on}
 use borrow.Author.Needs.{needs}
 use Rattle.lists.proofs.heads.Statement.{statement}
 use Rattle.lists.proofs.heads.Tie as tie
 
 abbrev Inv-loop : tie.InvT-loop
-Inv-loop list groups₀ levels₀ at₀ n₀ groups levels at n = Reading list at n groups levels
+Inv-loop list groups₀ levels₀ at₀ n₀ groups levels at n = Partway list at n groups levels
 
 abbrev μ-loop : tie.MeasureT-loop
 μ-loop list groups₀ levels₀ at₀ n₀ groups levels at n = maxFilters - n
@@ -20,7 +20,7 @@ abbrev μ-loop : tie.MeasureT-loop
 loop-holds : tie.Need-loop-holds Inv-loop μ-loop
 loop-holds c =
     let s = c .before .before .before in
-    reading-start (s .args .list .now) (s .args .groups .now) (s .args .levels .now) (s .pre .0) (s .pre .1)
+    partway-start (s .args .list .now) (s .args .groups .now) (s .args .levels .now) (s .pre .0) (s .pre .1)
 
 word-at-requires : tie.Need-word-at-requires Inv-loop μ-loop
 word-at-requires c κs = search needs
@@ -63,54 +63,49 @@ slice-write-levels c =
     let o = goes-on (b .loop .n) (b .loop .at) (length l) (c .before .before .loop-test .taken) in
     omega (arith, b .loop .inv .levels-room)
 
-add-word-at-2 : tie.Need-add-word-at-2 Inv-loop μ-loop
-add-word-at-2 c =
+count-at-requires : tie.Need-count-at-requires Inv-loop μ-loop
+count-at-requires c κs =
     let b = c .before .before .before in
     let l = b .before .before .before .before .args .list .now in
     let o = goes-on (b .loop .n) (b .loop .at) (length l) (c .before .before .loop-test .taken) in
-    omega (arith, b .before .before .before .before .good)
+    omega arith
 
-word-at-requires-3 : tie.Need-word-at-requires-3 Inv-loop μ-loop
-word-at-requires-3 c κs = search needs
-
-cast-at : tie.Need-cast-at Inv-loop μ-loop
-cast-at c = omega (arith, c .word-at3 .ok)
-
-mul-at : tie.Need-mul-at Inv-loop μ-loop
-mul-at c = omega (arith, c .word-at3 .ok)
+filter-words-requires : tie.Need-filter-words-requires Inv-loop μ-loop
+filter-words-requires c κs = search needs
 
 add-at : tie.Need-add-at Inv-loop μ-loop
-add-at c = omega (arith, c .word-at3 .ok)
-
-add-at-2 : tie.Need-add-at-2 Inv-loop μ-loop
-add-at-2 c =
-    let b = c .before .before .before .before in
+add-at c =
+    let d = c .before in
+    let b = d .before .before .before .before in
     let l = b .before .before .before .before .args .list .now in
-    let o = goes-on (b .loop .n) (b .loop .at) (length l) (c .before .before .before .loop-test .taken) in
-    omega (arith, c .word-at3 .ok, b .before .before .before .before .good)
+    let o = goes-on (b .loop .n) (b .loop .at) (length l) (d .before .before .before .loop-test .taken) in
+    omega (arith, d .count-at .ok, c .filter-words .ensures, b .before .before .before .before .good)
 
 add-n : tie.Need-add-n Inv-loop μ-loop
 add-n c =
-    let b = c .before .before .before .before in
+    let d = c .before in
+    let b = d .before .before .before .before in
     let l = b .before .before .before .before .args .list .now in
-    let o = goes-on (b .loop .n) (b .loop .at) (length l) (c .before .before .before .loop-test .taken) in
+    let o = goes-on (b .loop .n) (b .loop .at) (length l) (d .before .before .before .loop-test .taken) in
     omega arith
 
 loop-less : tie.Need-loop-less Inv-loop μ-loop
 loop-less c =
-    let b = c .before .before .before .before in
+    let d = c .before in
+    let b = d .before .before .before .before in
     let l = b .before .before .before .before .args .list .now in
-    let o = goes-on (b .loop .n) (b .loop .at) (length l) (c .before .before .before .loop-test .taken) in
+    let o = goes-on (b .loop .n) (b .loop .at) (length l) (d .before .before .before .loop-test .taken) in
     omega arith
 
 loop-again : tie.Need-loop-again Inv-loop μ-loop
 loop-again c =
-    let b = c .before .before .before .before in
+    let d = c .before in
+    let b = d .before .before .before .before in
     let p = b .loop in
     let l = b .before .before .before .before .args .list .now in
-    let o = goes-on (p .n) (p .at) (length l) (c .before .before .before .loop-test .taken) in
-    rw (c .word-at3 .ensures)
-    (reading-turn l (p .groups) (p .levels) (p .at) (p .n) (c .before .before .word-at .result) (c .before .word-at2 .result) (o .0) (o .1) (c .before .before .word-at .ensures) (c .before .word-at2 .ensures) (p .inv))
+    let o = goes-on (p .n) (p .at) (length l) (d .before .before .before .loop-test .taken) in
+    rw (c .filter-words .ensures, d .count-at .ensures)
+    (partway-turn l (p .groups) (p .levels) (p .at) (p .n) (d .before .before .word-at .result) (d .before .word-at2 .result) (o .0) (o .1) (d .before .before .word-at .ensures) (d .before .word-at2 .ensures) (p .inv))
 
 same-length : tie.Need-same-length Inv-loop μ-loop
 same-length c = c .before .loop .inv .groups-room ∙ sym (c .before .before .before .before .before .pre .0)
@@ -121,7 +116,7 @@ same-length-2 c = c .before .loop .inv .levels-room ∙ sym (c .before .before .
 returns : tie.Need-returns Inv-loop μ-loop
 returns c =
     let p = c .before .loop in
-    reading-end (c .before .before .before .before .before .args .list .now) (p .groups) (p .levels) (p .at) (p .n) (c .loop-test .left) (p .inv)
+    partway-end (c .before .before .before .before .before .args .list .now) (p .groups) (p .levels) (p .at) (p .n) (c .loop-test .left) (p .inv)
 
 pub heads-spec : {M : Type 1} → statement M
 heads-spec =
@@ -137,12 +132,9 @@ heads-spec =
     word-at-requires-2
     mul-levels
     slice-write-levels
-    add-word-at-2
-    word-at-requires-3
-    cast-at
-    mul-at
+    count-at-requires
+    filter-words-requires
     add-at
-    add-at-2
     add-n
     loop-less
     loop-again

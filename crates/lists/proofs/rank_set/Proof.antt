@@ -1,7 +1,7 @@
 -- `lists::rank_set` meets its contract: its test is the definition's, and each way returns that way's side.
 -- Assumes nothing.
 use borrow.Author.Tests.{lt-ltb, le-ltb}
-use Rattle.lists.specs.Ranks.{rankSetBy}
+use Rattle.lists.specs.inner.Columns.{rankSetBy}
 use borrow.Author.Needs.{needs}
 use Rattle.lists.proofs.rank_set.Statement.{statement}
 use Rattle.lists.proofs.rank_set.Tie as tie

@@ -1,6 +1,7 @@
 -- `lists::ranks_above` meets its contract: it is the definition, at the words read.
 -- Assumes nothing.
-use Rattle.lists.specs.Ranks.{outranks, aboveBy}
+use Rattle.lists.specs.Ranks.{outranks}
+use Rattle.lists.specs.inner.Columns.{aboveBy}
 use borrow.Author.Needs.{needs}
 use Rattle.lists.proofs.ranks_above.Statement.{statement}
 use Rattle.lists.proofs.ranks_above.Tie as tie

@@ -8,7 +8,7 @@ use native.Mathlib.Omega.{arith}
 use lib.ListN.{length, take, length-set}
 use lib.Seq.{take-all}
 use Rattle.sets.specs.Sets.{tally}
-use Rattle.lists.specs.Ranks.{rankSetBy}
+use Rattle.lists.specs.inner.Columns.{rankSetBy}
 use Rattle.lists.proofs.Columns.{tally-turn}
 use borrow.Author.Needs.{needs}
 use Rattle.lists.proofs.write_ranks.Statement.{statement}

@@ -2,7 +2,7 @@
 -- Assumes nothing.
 use mathlib.Core.Path.{sym, ap, _∙_}
 use lib.ListN.{length}
-use Rattle.lists.specs.Laws.{length-rankSets}
+use Rattle.lists.specs.laws.Ranking.{length-rankSets}
 use borrow.Author.Needs.{needs}
 use Rattle.lists_cases.proofs.ranks.Statement.{statement}
 use Rattle.lists_cases.proofs.ranks.Tie as tie

@@ -5,7 +5,7 @@ use Prim.Native.Nat.{_+_, _-_, _*_, _<_}
 use mathlib.Core.Path.{sym, _∙_}
 use borrow.Author.Needs.{needs}
 use borrow.Author.Tests.{not-false}
-use Rattle.matcher.specs.Chains.{Chained}
+use Rattle.matcher.specs.inner.Chains.{Chained}
 use Rattle.matcher.proofs.Linked.{chained-none, chained-more}
 use Rattle.matcher.proofs.chain.Statement.{statement}
 use Rattle.matcher.proofs.chain.Tie as tie

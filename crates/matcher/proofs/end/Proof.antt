@@ -3,7 +3,7 @@
 use borrow.Author.Needs.{needs}
 use borrow.Author.Tests.{ne-eqb}
 use Rattle.matcher.specs.Walk.{arrive}
-use Rattle.matcher.specs.Records.{endAt}
+use Rattle.matcher.specs.inner.Records.{endAt}
 use Rattle.matcher.proofs.end.Statement.{statement}
 use Rattle.matcher.proofs.end.Tie as tie
 

@@ -2,7 +2,7 @@
 -- Assumes nothing.
 use borrow.Author.Needs.{needs}
 use borrow.Author.Tests.{ne-eqb, lt-ltb, le-ltb}
-use Rattle.matcher.specs.Records.{endsAt}
+use Rattle.matcher.specs.inner.Records.{endsAt}
 use Rattle.matcher.proofs.ends.Statement.{statement}
 use Rattle.matcher.proofs.ends.Tie as tie
 

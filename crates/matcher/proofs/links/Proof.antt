@@ -2,7 +2,7 @@
 -- Assumes nothing.
 use borrow.Author.Needs.{needs}
 use borrow.Author.Tests.{eq-eqb, ne-eqb}
-use Rattle.matcher.specs.Chains.{linksAt}
+use Rattle.matcher.specs.inner.Chains.{linksAt}
 use Rattle.matcher.proofs.links.Statement.{statement}
 use Rattle.matcher.proofs.links.Tie as tie
 

@@ -3,7 +3,7 @@
 use borrow.Author.Needs.{needs}
 use mathlib.Core.Path.{refl}
 use Prim.Native.Nat.{_^_, _-_}
-use Rattle.residue.specs.Bits.{and-not}
+use Rattle.residue.specs.laws.Bits.{and-not}
 use Rattle.residue.proofs.without.Statement.{statement}
 use Rattle.residue.proofs.without.Tie as tie
 

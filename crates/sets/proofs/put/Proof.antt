@@ -7,6 +7,7 @@ use borrow.Author.Needs.{needs}
 use lib.Bits.{bitOr, or-shifted-r}
 use lib.Dec.{lit<}
 use lib.Pow.{shl-exact}
+use Rattle.sets.specs.inner.Width.{setBits}
 use Rattle.sets.proofs.put.Statement.{statement}
 use Rattle.sets.proofs.put.Tie as tie
 
@@ -17,7 +18,7 @@ shl-result : tie.Need-shl-result
 shl-result c = search needs
 
 returns : tie.Need-returns
-returns c = rw (c .if1 .taken) (added (c .before .args .set) (c .before .args .i) 32 (c .before .pre .0) (c .before .pre .1))
+returns c = rw (c .if1 .taken) (added (c .before .args .set) (c .before .args .i) setBits (c .before .pre .0) (c .before .pre .1))
 
 returns-2 : tie.Need-returns-2
 returns-2 c = rw (c .if1 .left) (omega arith)

@@ -1,6 +1,6 @@
 -- `slots::close` meets its contract. Closing is by the set of held filters.
 -- Assumes nothing.
-use Rattle.slots.specs.Slots.{closedIn, closedWords}
+use Rattle.slots.specs.inner.Slots.{closedIn, closedWords}
 use mathlib.Core.Path.{ap, _∙_}
 use borrow.Author.Needs.{needs}
 use Rattle.slots.proofs.close.Statement.{statement}

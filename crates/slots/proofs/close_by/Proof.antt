@@ -2,7 +2,7 @@
 -- Assumes nothing.
 use native.Mathlib.Nat.{sub-zero}
 use Rattle.slots.proofs.Parts.{part-long, close-turn, closed-none, lent-long, room, done}
-use Rattle.slots.specs.Slots.{closedIn}
+use Rattle.slots.specs.inner.Slots.{closedIn}
 use Rattle.slots.specs.Words.{filterSlot}
 use lib.ListN.{length, take, drop}
 use native.Mathlib.Omega.{arith}

@@ -2,7 +2,7 @@
 -- Assumes nothing.
 use native.Mathlib.Nat.{sub-zero}
 use Rattle.slots.proofs.Parts.{part-long, cut-turn, cut-none, lent-long, room, done}
-use Rattle.slots.specs.Slots.{cutWords}
+use Rattle.slots.specs.inner.Slots.{cutWords}
 use Rattle.slots.specs.Words.{filterSlot}
 use lib.ListN.{length, take, drop}
 use native.Mathlib.Omega.{arith}

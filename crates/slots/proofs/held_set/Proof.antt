@@ -1,7 +1,7 @@
 -- `slots::held_set` meets its contract. It is the set of a mark.
 -- Assumes nothing.
-use Rattle.slots.specs.Steps.{markedSet}
-use Rattle.slots.specs.Slots.{heldSet}
+use Rattle.slots.specs.inner.Steps.{markedSet}
+use Rattle.slots.specs.inner.Slots.{heldSet}
 use borrow.Author.Needs.{needs}
 use Rattle.slots.proofs.held_set.Statement.{statement}
 use Rattle.slots.proofs.held_set.Tie as tie

@@ -1,7 +1,7 @@
 -- `slots::marked` meets its contract. The loop's invariant: the set holds the marked filters below i.
 -- Assumes nothing.
 use Rattle.slots.proofs.Sets.{marked-more, marked-bound}
-use Rattle.slots.specs.Steps.{markedSet}
+use Rattle.slots.specs.inner.Steps.{markedSet}
 use Rattle.sets.specs.Sets.{setOf, tally}
 use native.Mathlib.Omega.{arith}
 use mathlib.Core.Path.{_≡_, refl, ap, _∙_}

@@ -1,7 +1,7 @@
 -- `slots::out_set` meets its contract. It is the set of a mark.
 -- Assumes nothing.
-use Rattle.slots.specs.Steps.{markedSet}
-use Rattle.slots.specs.Slots.{outSetIn}
+use Rattle.slots.specs.inner.Steps.{markedSet}
+use Rattle.slots.specs.inner.Slots.{outSetIn}
 use borrow.Author.Needs.{needs}
 use Rattle.slots.proofs.out_set.Statement.{statement}
 use Rattle.slots.proofs.out_set.Tie as tie

@@ -1,7 +1,7 @@
 -- `slots::question_of` meets its contract. The loop's invariant: no filter passed has a test, so the question is that of the rest.
 -- Assumes nothing.
 use Rattle.slots.proofs.Questions.{question-here, question-more, question-none}
-use Rattle.slots.specs.Slots.{questionIn}
+use Rattle.slots.specs.inner.Slots.{questionIn}
 use Rattle.slots.specs.Words.{filterSlot}
 use lib.ListN.{drop}
 use native.Mathlib.Nat.{sub-zero}

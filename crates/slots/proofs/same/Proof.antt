@@ -1,7 +1,7 @@
 -- `slots::same` meets its contract. The loop's invariant: the words passed are the same, so the rest decides.
 -- Assumes nothing.
 use Rattle.slots.proofs.Sameness.{same-more, same-differ, same-end}
-use Rattle.slots.specs.Slots.{sameWords}
+use Rattle.slots.specs.inner.Slots.{sameWords}
 use lib.ListN.{length, drop}
 use mathlib.Core.Path.{_≡_, refl, sym, _∙_}
 use Prim.Native.Nat.{_-_}

@@ -1,7 +1,7 @@
 -- `slots::start_into` meets its contract. Every filter with all its tests, then closed.
 -- Assumes nothing.
-use Rattle.slots.specs.Slots.{closedWords, startWords}
-use Rattle.lists.specs.Laws.{accepted-count}
+use Rattle.slots.specs.inner.Slots.{closedWords, startWords}
+use Rattle.lists.specs.laws.Accepted.{accepted-count}
 use mathlib.Core.Path.{ap, _∙_}
 use borrow.Author.Needs.{needs}
 use Rattle.slots.proofs.start_into.Statement.{statement}

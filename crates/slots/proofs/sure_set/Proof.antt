@@ -2,7 +2,7 @@
 -- Assumes nothing.
 use Rattle.slots.proofs.Stepping.{out-bound}
 use Rattle.slots.proofs.Sets.{sureAt, sure-turn, put-bound}
-use Rattle.slots.specs.Slots.{sureSetIn}
+use Rattle.slots.specs.inner.Slots.{sureSetIn}
 use Rattle.sets.specs.Sets.{setOf, tally}
 use native.Mathlib.Omega.{arith}
 use mathlib.Core.Path.{_≡_, refl, ap, _∙_}

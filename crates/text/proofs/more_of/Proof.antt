@@ -3,7 +3,7 @@
 use mathlib.Core.Path.{sym, _∙_}
 use borrow.Author.Tests.{le-leb, lt-leb, not-true, not-false}
 use Rattle.text.proofs.Scans.{digit-least}
-use Rattle.text.specs.Steps.{more}
+use Rattle.text.specs.inner.Steps.{more}
 use borrow.Author.Needs.{needs}
 use Rattle.text.proofs.more_of.Statement.{statement}
 use Rattle.text.proofs.more_of.Tie as tie

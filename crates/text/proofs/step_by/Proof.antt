@@ -1,7 +1,7 @@
 -- `text::step_by` meets its contract: its test is that of the definition.
 -- Assumes nothing.
 use mathlib.Core.Path.{sym, _∙_}
-use Rattle.text.specs.Steps.{step}
+use Rattle.text.specs.inner.Steps.{step}
 use borrow.Author.Needs.{needs}
 use Rattle.text.proofs.step_by.Statement.{statement}
 use Rattle.text.proofs.step_by.Tie as tie

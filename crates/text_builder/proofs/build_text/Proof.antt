@@ -2,9 +2,9 @@
 -- Assumes nothing.
 use mathlib.Core.Path.{refl, sym}
 use lib.Seq.{length-take-le}
-use Rattle.text.specs.Laws.{reads-refused, reads-accepted, reads-fit, reads-first}
+use Rattle.text.specs.laws.Reading.{reads-refused, reads-accepted, reads-fit, reads-first}
 use Rattle.builder.specs.Outcome.{refused}
-use Rattle.text_builder.specs.Laws.{text-refused, text-built}
+use Rattle.text_builder.specs.laws.Texts.{text-refused, text-built}
 use borrow.Author.Needs.{needs}
 use Rattle.text_builder.proofs.build_text.Statement.{statement}
 use Rattle.text_builder.proofs.build_text.Tie as tie

@@ -3,7 +3,7 @@
 use Prim.Native.Nat.{_≤_, _-_}
 use mathlib.Core.Path.{sym, ap, _∙_}
 use native.Mathlib.Omega.{arith}
-use Rattle.slots.specs.Slots.{sameWords}
+use Rattle.slots.specs.inner.Slots.{sameWords}
 use Rattle.builder.proofs.Finding.{Unmet, unmet-none, unmet-more, found-at, found-nothing, slot-part}
 use borrow.Author.Needs.{needs}
 use Rattle.builder.proofs.meet.find.Statement.{statement}

@@ -1,7 +1,7 @@
 -- `builder::meet::meet` meets its contract. The candidate is the state stepped to, in front of the words lent for it; the search's answer says which case it is.
 -- Assumes nothing.
 use mathlib.Core.Path.{sym}
-use Rattle.builder.proofs.Meeting.{front-long, front-fits, front-whole, front-steps, step-asks, search-asks, store-asks, slot-left, met-old, met-full, met-new}
+use Rattle.builder.proofs.Meeting.{front-long, front-fits, front-whole, front-steps, step-asks, search-asks, store-asks, slot-left, met-old, met-slotless, met-new}
 use borrow.Author.Needs.{needs}
 use Rattle.builder.proofs.meet.meet.Statement.{statement}
 use Rattle.builder.proofs.meet.meet.Tie as tie
@@ -76,7 +76,7 @@ returns c =
     let p = f .before .before .before .before .before in
     let s = p .before .before .before .before .before .before .before .before in
     let a = s .args in
-    met-full (a .n) (a .slots) (a .ranks .now) (a .used) (a .table .now) (a .scratch .now) _ _
+    met-slotless (a .n) (a .slots) (a .ranks .now) (a .used) (a .table .now) (a .scratch .now) _ _
     (front-steps (a .n) (s .args .words .now) (s .pre .1) (p .step-into .last .1 .0) (p .step-into .kept .1 .0) (a .ranks .now) (a .o) (a .scratch .now) (a .at) (p .step-into .ensures))
     (f .find .result) (f .find .ensures) (c .before .enum-told .given .1) (c .if1 .taken)
 

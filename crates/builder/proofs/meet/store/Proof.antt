@@ -1,6 +1,6 @@
 -- `builder::meet::store` meets its contract. The candidate and its record are written into the lent tails behind the states and records there are.
 -- Assumes nothing.
-use Rattle.builder.proofs.Storing.{stored-both}
+use Rattle.builder.proofs.Storing.{fresh-is, stored-both}
 use borrow.Author.Needs.{needs}
 use Rattle.builder.proofs.meet.store.Statement.{statement}
 use Rattle.builder.proofs.meet.store.Tie as tie
@@ -23,23 +23,32 @@ part-copy-into-end c = search needs
 copy-into-requires : tie.Need-copy-into-requires
 copy-into-requires c κs = search needs
 
-mul-write-record : tie.Need-mul-write-record
-mul-write-record c = search needs
+question-of-requires : tie.Need-question-of-requires
+question-of-requires c κs = search needs
 
-mul-write-record-2 : tie.Need-mul-write-record-2
-mul-write-record-2 c = search needs
+sure-set-requires : tie.Need-sure-set-requires
+sure-set-requires c κs = search needs
 
-sub-write-record : tie.Need-sub-write-record
-sub-write-record c = search needs
+out-set-requires : tie.Need-out-set-requires
+out-set-requires c κs = search needs
 
-part-write-record-start : tie.Need-part-write-record-start
-part-write-record-start c = search needs
+mul-write-fresh : tie.Need-mul-write-fresh
+mul-write-fresh c = search needs
 
-part-write-record-end : tie.Need-part-write-record-end
-part-write-record-end c = search needs
+mul-write-fresh-2 : tie.Need-mul-write-fresh-2
+mul-write-fresh-2 c = search needs
 
-write-record-requires : tie.Need-write-record-requires
-write-record-requires c κs = search needs
+sub-write-fresh : tie.Need-sub-write-fresh
+sub-write-fresh c = search needs
+
+part-write-fresh-start : tie.Need-part-write-fresh-start
+part-write-fresh-start c = search needs
+
+part-write-fresh-end : tie.Need-part-write-fresh-end
+part-write-fresh-end c = search needs
+
+write-fresh-requires : tie.Need-write-fresh-requires
+write-fresh-requires c κs = search needs
 
 same-length : tie.Need-same-length
 same-length c = search needs
@@ -50,11 +59,17 @@ same-length-2 c = search needs
 returns : tie.Need-returns
 returns c =
     let r = c .before .before in
-    let w = r .before .before .before .before in
+    let o = r .before .before in
+    let s = o .before in
+    let q = s .before in
+    let w = q .before .before .before in
     let b = w .before .before .before .before .before .before in
     let a = b .args in
-    stored-both (a .n) (a .slots) (a .ranks .now) (a .used) (a .table .now) (a .scratch .now) (a .candidate .now) (w .copy-into .last .0) (r .write-record .last .1 .1 .1 .0) (b .pre)
-    (w .copy-into .ensures) (r .write-record .ensures)
+    let asked = q .question-of .result in
+    let fresh = fresh-is (a .n) (a .ranks .now) (a .candidate .now) (asked .kind) (asked .field) (asked .mask) (asked .value) (s .sure-set .result) (o .out-set .result)
+    (q .question-of .ensures) (s .sure-set .ensures) (o .out-set .ensures) in
+    stored-both (a .n) (a .slots) (a .ranks .now) (a .used) (a .table .now) (a .scratch .now) (a .candidate .now) (w .copy-into .last .0) (r .write-fresh .last .0) _ (b .pre)
+    (w .copy-into .ensures) (r .write-fresh .ensures) fresh
 
 pub store-spec : {M : Type 1} → statement M
 store-spec =
@@ -66,12 +81,15 @@ store-spec =
     part-copy-into-start
     part-copy-into-end
     copy-into-requires
-    mul-write-record
-    mul-write-record-2
-    sub-write-record
-    part-write-record-start
-    part-write-record-end
-    write-record-requires
+    question-of-requires
+    sure-set-requires
+    out-set-requires
+    mul-write-fresh
+    mul-write-fresh-2
+    sub-write-fresh
+    part-write-fresh-start
+    part-write-fresh-end
+    write-fresh-requires
     same-length
     same-length-2
     returns)

@@ -1,19 +1,18 @@
--- The state builder and the way builder meet their contracts: each way out is a law of specs/Placed. The measure is the number of tests that remain in the state of slot `at`, twice, and one more for the state builder.
+-- The state builder and the way builder meet their contracts: each way out is a law of specs/WaysPlaced. The measure is the number of tests that remain in the state of slot `at`, twice, and one more for the state builder.
 -- Assumes nothing.
 use mathlib.Core.Path.{_≡_, refl, _∙_, subst, sym}
 use mathlib.Core.Bool.{Bool, false, not}
 use mathlib.Core.List.{List}
 use native.Mathlib.Omega.{arith}
-use lib.ListN.{length-set}
 use borrow.Author.Tests.{not-true, not-false}
 use denote.Ref.{now}
 use Rattle.tables.specs.Tables.{recordWords}
 use Rattle.slots.specs.Words.{filterSlot}
-use Rattle.slots.specs.Slots.{asksIn}
-use Rattle.machine.specs.Remaining.{GoodWords, testsLeft}
-use Rattle.builder.specs.Memory.{slotAt}
-use Rattle.builder.specs.Placed as P
-use Rattle.builder.specs.Promises.{Asking}
+use Rattle.slots.specs.inner.Slots.{asksIn}
+use Rattle.machine.specs.inner.Remaining.{GoodWords, testsLeft}
+use Rattle.builder.specs.inner.Memory.{slotAt}
+use Rattle.builder.specs.laws.WaysPlaced as P
+use Rattle.builder.specs.inner.Promises.{Asking}
 use borrow.Author.Needs.{needs}
 use Prim.Native.Nat.{ℕ, _<_, _≤_, _*_, _+_}
 use borrow.Fn.Kinds.{In}
@@ -26,13 +25,17 @@ use Rattle.builder.proofs.place.place_way.Kinds as place-way-kinds
 use Rattle.builder.proofs.place.+place_state+place_way.Lts-place_way as place-way-lts
 use Rattle.builder.proofs.meet.asks.Reads as asks-reads
 use Rattle.builder.proofs.meet.meet.Reads as meet-reads
-use Rattle.builder.proofs.place.next_word.Reads as next-word-reads
+use Rattle.tables.proofs.put_next.Reads as put-next-reads
 use Rattle.builder.proofs.place.+place_state+place_way.{statement}
 use Rattle.builder.proofs.place.+place_state+place_way.Tie.{close}
 
 -- Words that came back are as many as were lent: a candidate still has room in them.
 roomy : (n k k' : ℕ) → k' ≡ k → filterSlot * n ≤ k → filterSlot * n ≤ k'
 roomy n k k' e h = subst (λ (m : ℕ). filterSlot * n ≤ m) (sym e) h
+
+-- A record in the table is there too in a table that came back.
+tabled : (at k k' : ℕ) → k' ≡ k → recordWords * (at + 1) ≤ k → recordWords * (at + 1) ≤ k'
+tabled at k k' e h = subst (λ (m : ℕ). recordWords * (at + 1) ≤ m) (sym e) h
 
 -- What is below the caller's measure is below its value.
 below : {m j t : ℕ} → m < j → j ≡ t → m < t
@@ -157,7 +160,7 @@ place-state-returns-2 t c =
     let start = w .before .before .before .before .before .before .before .before .before .before .before in
     let a = start .args in
     let asking = asked (w .before .before .before .before .before .asks .result) (start .pre .1 .1 .1) (w .before .before .before .before .before .asks .ensures) (w .before .before .before .before .if1 .left) in
-    P.first-full (a .n) (a .slots) (now (a .ranks)) (a .at) (a .used) (now (a .table)) (now (a .scratch)) (start .pre .1 .0) asking (w .place-way .result) (w .place-way .last .1 .1 .1 .0) (w .place-way .last .1 .1 .1 .1 .0) (c .enum-told .given .1) (w .place-way .ensures)
+    P.first-slotless (a .n) (a .slots) (now (a .ranks)) (a .at) (a .used) (now (a .table)) (now (a .scratch)) (start .pre .1 .0) asking (w .place-way .result) (w .place-way .last .1 .1 .1 .0) (w .place-way .last .1 .1 .1 .1 .0) (c .enum-told .given .1) (w .place-way .ensures)
 
 place-state-place-way-requires-2 : (t : ℕ) → place-state-lts.Need-place-way-requires-2 (
   asks-reads.Asked,
@@ -232,7 +235,7 @@ place-state-returns-3 t c =
     let a = start .args in
     let asking = asked (w .before .before .before .before .before .asks .result) (start .pre .1 .1 .1) (w .before .before .before .before .before .asks .ensures) (w .before .before .before .before .if1 .left) in
     let f = v .before .before .before .before .before .holds .given in
-    P.second-full (a .n) (a .slots) (now (a .ranks)) (a .at) (a .used) (now (a .table)) (now (a .scratch)) (start .pre .1 .0) asking (f .0 .0) (w .place-way .result) (w .place-way .last .1 .1 .1 .0) (w .place-way .last .1 .1 .1 .1 .0) (f .1) (w .place-way .ensures)
+    P.second-slotless (a .n) (a .slots) (now (a .ranks)) (a .at) (a .used) (now (a .table)) (now (a .scratch)) (start .pre .1 .0) asking (f .0 .0) (w .place-way .result) (w .place-way .last .1 .1 .1 .0) (w .place-way .last .1 .1 .1 .1 .0) (f .1) (w .place-way .ensures)
     (v .place-way2 .result) (v .place-way2 .last .1 .1 .1 .0) (v .place-way2 .last .1 .1 .1 .1 .0) (c .enum-told2 .given .1) (v .place-way2 .ensures)
 
 place-state-place-way-requires-3 : (t : ℕ) → place-state-lts.Need-place-way-requires-3 (
@@ -303,148 +306,98 @@ place-state-returns-4 t c =
     (g .0 .0) (v .place-way2 .result) (v .place-way2 .last .1 .1 .1 .0) (v .place-way2 .last .1 .1 .1 .1 .0) (g .1) (v .place-way2 .ensures)
     (x .place-way3 .result) (x .place-way3 .last .1 .1 .1 .0) (x .place-way3 .last .1 .1 .1 .1 .0) (x .place-way3 .ensures)
 
-place-way-mul-word : (t : ℕ) → place-way-lts.Need-mul-word (
-  next-word-reads.Asked,
-  next-word-reads.Learnt,
-  meet-reads.Asked,
-  meet-reads.Learnt,
-  place-state-below t,
-  place-state.Post,
-) (place-way-at t) place-way.Post
-place-way-mul-word t c = search needs
-
-place-way-next-word-requires : (t : ℕ) → place-way-lts.Need-next-word-requires (
-  next-word-reads.Asked,
-  next-word-reads.Learnt,
-  meet-reads.Asked,
-  meet-reads.Learnt,
-  place-state-below t,
-  place-state.Post,
-) (place-way-at t) place-way.Post
-place-way-next-word-requires t c κs = search needs
-
-place-way-add-word : (t : ℕ) → place-way-lts.Need-add-word (
-  next-word-reads.Asked,
-  next-word-reads.Learnt,
-  meet-reads.Asked,
-  meet-reads.Learnt,
-  place-state-below t,
-  place-state.Post,
-) (place-way-at t) place-way.Post
-place-way-add-word t c =
-    let start = c .before .before .before .before .before in
-    let a = start .args in
-    omega (arith, P.word-within (a .n) (a .slots) (now (a .ranks)) (a .at) (a .used) (c .next-word .result) (a .o) (now (a .table)) (now (a .scratch)) (start .pre .1 .0) (c .next-word .ensures), start .good .1 .1 .1 .0 .1)
-
 place-way-meet-requires : (t : ℕ) → place-way-lts.Need-meet-requires (
-  next-word-reads.Asked,
-  next-word-reads.Learnt,
   meet-reads.Asked,
   meet-reads.Learnt,
+  put-next-reads.Asked,
+  put-next-reads.Learnt,
   place-state-below t,
   place-state.Post,
 ) (place-way-at t) place-way.Post
 place-way-meet-requires t c κs =
-    let start = c .before .before .before .before .before .before .before .before in
+    let start = c .before .before .before .before .before .before .before in
     (start .pre .1 .0, start .pre .1 .1 .0)
 
 place-way-enum-known-number : (t : ℕ) → place-way-lts.Need-enum-known-number (
-  next-word-reads.Asked,
-  next-word-reads.Learnt,
   meet-reads.Asked,
   meet-reads.Learnt,
+  put-next-reads.Asked,
+  put-next-reads.Learnt,
   place-state-below t,
   place-state.Post,
 ) (place-way-at t) place-way.Post
 place-way-enum-known-number t c = search needs
 
-place-way-cast-table : (t : ℕ) → place-way-lts.Need-cast-table (
-  next-word-reads.Asked,
-  next-word-reads.Learnt,
+place-way-cast-put-next : (t : ℕ) → place-way-lts.Need-cast-put-next (
   meet-reads.Asked,
   meet-reads.Learnt,
+  put-next-reads.Asked,
+  put-next-reads.Learnt,
   place-state-below t,
   place-state.Post,
 ) (place-way-at t) place-way.Post
-place-way-cast-table t c =
-    let w = c .before .before .before .before .before .before .before .before .before in
-    let start = w .before .before .before .before .before .before .before .before .before in
+place-way-cast-put-next t c =
+    let w = c .before .before .before .before .before .before .before .before .before .before in
+    let start = w .before .before .before .before .before .before .before .before in
     let a = start .args in
-    let nw = w .before .before .before .before .next-word in
-    let i = c .before .number .given in
+    let i = c .before .before .number .given in
     omega (arith, P.old-below (a .n) (a .slots) (now (a .ranks)) (a .at) (a .used) (a .o) (now (a .table)) (now (a .scratch)) (start .pre .1 .0) (i .0 .0) (w .meet .result) (w .meet .last .1 .1 .1 .0) (w .meet .last .1 .1 .1 .1 .0) (i .1) (w .meet .ensures), start .pre .1 .0 .within, start .pre .1 .0 .few)
 
-place-way-mul-table : (t : ℕ) → place-way-lts.Need-mul-table (
-  next-word-reads.Asked,
-  next-word-reads.Learnt,
+place-way-put-next-requires : (t : ℕ) → place-way-lts.Need-put-next-requires (
   meet-reads.Asked,
   meet-reads.Learnt,
+  put-next-reads.Asked,
+  put-next-reads.Learnt,
   place-state-below t,
   place-state.Post,
 ) (place-way-at t) place-way.Post
-place-way-mul-table t c =
-    let w = c .before .before .before .before .before .before .before .before .before in
-    let start = w .before .before .before .before .before .before .before .before .before in
+place-way-put-next-requires t c κs =
+    let w = c .before .before .before .before .before .before .before .before .before .before in
+    let start = w .before .before .before .before .before .before .before .before in
     let a = start .args in
-    let nw = w .before .before .before .before .next-word in
-    omega (arith, P.word-within (a .n) (a .slots) (now (a .ranks)) (a .at) (a .used) (nw .result) (a .o) (now (a .table)) (now (a .scratch)) (start .pre .1 .0) (nw .ensures), start .good .1 .1 .1 .0 .1)
-
-place-way-slice-write-table : (t : ℕ) → place-way-lts.Need-slice-write-table (
-  next-word-reads.Asked,
-  next-word-reads.Learnt,
-  meet-reads.Asked,
-  meet-reads.Learnt,
-  place-state-below t,
-  place-state.Post,
-) (place-way-at t) place-way.Post
-place-way-slice-write-table t c =
-    let w = c .before .before .before .before .before .before .before .before .before in
-    let start = w .before .before .before .before .before .before .before .before .before in
-    let a = start .args in
-    let nw = w .before .before .before .before .next-word in
-    subst (λ (k : ℕ). recordWords * a .at + nw .result < k) (sym (w .meet .kept .1 .1 .1 .0)) (P.word-within (a .n) (a .slots) (now (a .ranks)) (a .at) (a .used) (nw .result) (a .o) (now (a .table)) (now (a .scratch)) (start .pre .1 .0) (nw .ensures))
+    tabled (a .at) _ _ (w .meet .kept .1 .1 .1 .0) (P.record-within (a .n) (a .slots) (now (a .ranks)) (a .at) (a .used) (now (a .table)) (now (a .scratch)) (start .pre .1 .0))
 
 place-way-enum-told : (t : ℕ) → place-way-lts.Need-enum-told (
-  next-word-reads.Asked,
-  next-word-reads.Learnt,
   meet-reads.Asked,
   meet-reads.Learnt,
+  put-next-reads.Asked,
+  put-next-reads.Learnt,
   place-state-below t,
   place-state.Post,
 ) (place-way-at t) place-way.Post
 place-way-enum-told t c = search needs
 
 place-way-enum-told-2 : (t : ℕ) → place-way-lts.Need-enum-told-2 (
-  next-word-reads.Asked,
-  next-word-reads.Learnt,
   meet-reads.Asked,
   meet-reads.Learnt,
+  put-next-reads.Asked,
+  put-next-reads.Learnt,
   place-state-below t,
   place-state.Post,
 ) (place-way-at t) place-way.Post
 place-way-enum-told-2 t c = search needs
 
 place-way-add-place-state : (t : ℕ) → place-way-lts.Need-add-place-state (
-  next-word-reads.Asked,
-  next-word-reads.Learnt,
   meet-reads.Asked,
   meet-reads.Learnt,
+  put-next-reads.Asked,
+  put-next-reads.Learnt,
   place-state-below t,
   place-state.Post,
 ) (place-way-at t) place-way.Post
 place-way-add-place-state t c = search needs
 
 place-way-place-state-requires : (t : ℕ) → place-way-lts.Need-place-state-requires (
-  next-word-reads.Asked,
-  next-word-reads.Learnt,
   meet-reads.Asked,
   meet-reads.Learnt,
+  put-next-reads.Asked,
+  put-next-reads.Learnt,
   place-state-below t,
   place-state.Post,
 ) (place-way-at t) place-way.Post
 place-way-place-state-requires t c κs =
     let w = c .before .before .before .before .before .before .before .before .before .before .before in
-    let start = w .before .before .before .before .before .before .before .before .before in
+    let start = w .before .before .before .before .before .before .before .before in
     let a = start .args in
     let e = c .before .before .before .enum-told2 in (
       below (P.state-less (a .n) (a .slots) (now (a .ranks)) (a .at) (a .used) (a .o) (now (a .table)) (now (a .scratch)) (start .pre .1 .0) (start .pre .1 .1 .1) (w .meet .result) (w .meet .last .1 .1 .1 .0) (w .meet .last .1 .1 .1 .1 .0) (e .given .1) (w .meet .ensures)) (start .pre .0),
@@ -455,262 +408,237 @@ place-way-place-state-requires t c κs =
     )
 
 place-way-enum-known-placed : (t : ℕ) → place-way-lts.Need-enum-known-placed (
-  next-word-reads.Asked,
-  next-word-reads.Learnt,
   meet-reads.Asked,
   meet-reads.Learnt,
+  put-next-reads.Asked,
+  put-next-reads.Learnt,
   place-state-below t,
   place-state.Post,
 ) (place-way-at t) place-way.Post
 place-way-enum-known-placed t c = search needs
 
 place-way-enum-told-3 : (t : ℕ) → place-way-lts.Need-enum-told-3 (
-  next-word-reads.Asked,
-  next-word-reads.Learnt,
   meet-reads.Asked,
   meet-reads.Learnt,
+  put-next-reads.Asked,
+  put-next-reads.Learnt,
   place-state-below t,
   place-state.Post,
 ) (place-way-at t) place-way.Post
 place-way-enum-told-3 t c = search needs
 
 place-way-same-length : (t : ℕ) → place-way-lts.Need-same-length (
-  next-word-reads.Asked,
-  next-word-reads.Learnt,
   meet-reads.Asked,
   meet-reads.Learnt,
+  put-next-reads.Asked,
+  put-next-reads.Learnt,
   place-state-below t,
   place-state.Post,
 ) (place-way-at t) place-way.Post
 place-way-same-length t c = search needs
 
 place-way-same-length-2 : (t : ℕ) → place-way-lts.Need-same-length-2 (
-  next-word-reads.Asked,
-  next-word-reads.Learnt,
   meet-reads.Asked,
   meet-reads.Learnt,
+  put-next-reads.Asked,
+  put-next-reads.Learnt,
   place-state-below t,
   place-state.Post,
 ) (place-way-at t) place-way.Post
 place-way-same-length-2 t c = search needs
 
 place-way-same-length-3 : (t : ℕ) → place-way-lts.Need-same-length-3 (
-  next-word-reads.Asked,
-  next-word-reads.Learnt,
   meet-reads.Asked,
   meet-reads.Learnt,
+  put-next-reads.Asked,
+  put-next-reads.Learnt,
   place-state-below t,
   place-state.Post,
 ) (place-way-at t) place-way.Post
 place-way-same-length-3 t c = search needs
 
 place-way-returns : (t : ℕ) → place-way-lts.Need-returns (
-  next-word-reads.Asked,
-  next-word-reads.Learnt,
   meet-reads.Asked,
   meet-reads.Learnt,
+  put-next-reads.Asked,
+  put-next-reads.Learnt,
   place-state-below t,
   place-state.Post,
 ) (place-way-at t) place-way.Post
 place-way-returns t c =
     let v = c .before .before .before .before .before .before .before .before in
     let w = v .before .before .before .before .before .before .before .before .before .before .before .before in
-    let start = w .before .before .before .before .before .before .before .before .before in
+    let start = w .before .before .before .before .before .before .before .before in
     let a = start .args in
-    let nw = w .before .before .before .before .next-word in
     let e = v .before .before .before .before .enum-told2 in
-    P.placed-new-full (a .n) (a .slots) (now (a .ranks)) (a .at) (a .used) (a .o) (now (a .table)) (now (a .scratch)) (start .pre .1 .0) (start .pre .1 .1 .1) (w .meet .result) (w .meet .last .1 .1 .1 .0) (w .meet .last .1 .1 .1 .1 .0) (e .given .1) (w .meet .ensures) (v .place-state .result) (v .place-state .last .1 .1 .1 .0) (v .place-state .last .1 .1 .1 .1 .0) (c .enum-told3 .given .1) (v .place-state .ensures)
+    P.placed-new-slotless (a .n) (a .slots) (now (a .ranks)) (a .at) (a .used) (a .o) (now (a .table)) (now (a .scratch)) (start .pre .1 .0) (start .pre .1 .1 .1) (w .meet .result) (w .meet .last .1 .1 .1 .0) (w .meet .last .1 .1 .1 .1 .0) (e .given .1) (w .meet .ensures) (v .place-state .result) (v .place-state .last .1 .1 .1 .0) (v .place-state .last .1 .1 .1 .1 .0) (c .enum-told3 .given .1) (v .place-state .ensures)
 
-place-way-cast-table-2 : (t : ℕ) → place-way-lts.Need-cast-table-2 (
-  next-word-reads.Asked,
-  next-word-reads.Learnt,
+place-way-cast-put-next-2 : (t : ℕ) → place-way-lts.Need-cast-put-next-2 (
   meet-reads.Asked,
   meet-reads.Learnt,
+  put-next-reads.Asked,
+  put-next-reads.Learnt,
   place-state-below t,
   place-state.Post,
 ) (place-way-at t) place-way.Post
-place-way-cast-table-2 t c =
-    let v = c .before .before .before .before .before .before .before .before .before in
+place-way-cast-put-next-2 t c =
+    let v = c .before .before .before .before .before .before .before .before .before .before in
     let w = v .before .before .before .before .before .before .before .before .before .before .before .before in
-    let start = w .before .before .before .before .before .before .before .before .before in
+    let start = w .before .before .before .before .before .before .before .before in
     omega (arith, start .pre .1 .0 .within, start .pre .1 .0 .few)
 
-place-way-mul-table-2 : (t : ℕ) → place-way-lts.Need-mul-table-2 (
-  next-word-reads.Asked,
-  next-word-reads.Learnt,
+place-way-put-next-requires-2 : (t : ℕ) → place-way-lts.Need-put-next-requires-2 (
   meet-reads.Asked,
   meet-reads.Learnt,
+  put-next-reads.Asked,
+  put-next-reads.Learnt,
   place-state-below t,
   place-state.Post,
 ) (place-way-at t) place-way.Post
-place-way-mul-table-2 t c =
-    let v = c .before .before .before .before .before .before .before .before .before in
+place-way-put-next-requires-2 t c κs =
+    let v = c .before .before .before .before .before .before .before .before .before .before in
     let w = v .before .before .before .before .before .before .before .before .before .before .before .before in
-    let start = w .before .before .before .before .before .before .before .before .before in
+    let start = w .before .before .before .before .before .before .before .before in
     let a = start .args in
-    let nw = w .before .before .before .before .next-word in
-    omega (arith, P.word-within (a .n) (a .slots) (now (a .ranks)) (a .at) (a .used) (nw .result) (a .o) (now (a .table)) (now (a .scratch)) (start .pre .1 .0) (nw .ensures), start .good .1 .1 .1 .0 .1)
-
-place-way-slice-write-table-2 : (t : ℕ) → place-way-lts.Need-slice-write-table-2 (
-  next-word-reads.Asked,
-  next-word-reads.Learnt,
-  meet-reads.Asked,
-  meet-reads.Learnt,
-  place-state-below t,
-  place-state.Post,
-) (place-way-at t) place-way.Post
-place-way-slice-write-table-2 t c =
-    let v = c .before .before .before .before .before .before .before .before .before in
-    let w = v .before .before .before .before .before .before .before .before .before .before .before .before in
-    let start = w .before .before .before .before .before .before .before .before .before in
-    let a = start .args in
-    let nw = w .before .before .before .before .next-word in
-    subst (λ (k : ℕ). recordWords * a .at + nw .result < k) (sym (v .place-state .kept .1 .1 .1 .0 ∙ w .meet .kept .1 .1 .1 .0)) (P.word-within (a .n) (a .slots) (now (a .ranks)) (a .at) (a .used) (nw .result) (a .o) (now (a .table)) (now (a .scratch)) (start .pre .1 .0) (nw .ensures))
+    tabled (a .at) _ _ (v .place-state .kept .1 .1 .1 .0 ∙ w .meet .kept .1 .1 .1 .0) (P.record-within (a .n) (a .slots) (now (a .ranks)) (a .at) (a .used) (now (a .table)) (now (a .scratch)) (start .pre .1 .0))
 
 place-way-same-length-4 : (t : ℕ) → place-way-lts.Need-same-length-4 (
-  next-word-reads.Asked,
-  next-word-reads.Learnt,
   meet-reads.Asked,
   meet-reads.Learnt,
+  put-next-reads.Asked,
+  put-next-reads.Learnt,
   place-state-below t,
   place-state.Post,
 ) (place-way-at t) place-way.Post
 place-way-same-length-4 t c = search needs
 
 place-way-same-length-5 : (t : ℕ) → place-way-lts.Need-same-length-5 (
-  next-word-reads.Asked,
-  next-word-reads.Learnt,
   meet-reads.Asked,
   meet-reads.Learnt,
+  put-next-reads.Asked,
+  put-next-reads.Learnt,
   place-state-below t,
   place-state.Post,
 ) (place-way-at t) place-way.Post
 place-way-same-length-5 t c = search needs
 
 place-way-same-length-6 : (t : ℕ) → place-way-lts.Need-same-length-6 (
-  next-word-reads.Asked,
-  next-word-reads.Learnt,
   meet-reads.Asked,
   meet-reads.Learnt,
+  put-next-reads.Asked,
+  put-next-reads.Learnt,
   place-state-below t,
   place-state.Post,
 ) (place-way-at t) place-way.Post
 place-way-same-length-6 t c = search needs
 
 place-way-returns-2 : (t : ℕ) → place-way-lts.Need-returns-2 (
-  next-word-reads.Asked,
-  next-word-reads.Learnt,
   meet-reads.Asked,
   meet-reads.Learnt,
+  put-next-reads.Asked,
+  put-next-reads.Learnt,
   place-state-below t,
   place-state.Post,
 ) (place-way-at t) place-way.Post
 place-way-returns-2 t c =
-    let w = c .before .before .before .before .before .before .before .before .before in
-    let start = w .before .before .before .before .before .before .before .before .before in
+    let p = c .before .before in
+    let w = p .before .before .before .before .before .before .before .before .before .before .before in
+    let start = w .before .before .before .before .before .before .before .before in
     let a = start .args in
-    let nw = w .before .before .before .before .next-word in
-    let i = c .before .number .given in
-    P.placed-old (a .n) (a .slots) (now (a .ranks)) (a .at) (a .used) (a .o) (now (a .table)) (now (a .scratch)) (start .pre .1 .0) (nw .result) (i .0 .0) (w .meet .result) (w .meet .last .1 .1 .1 .0) (w .meet .last .1 .1 .1 .1 .0) (nw .ensures) (i .1) (w .meet .ensures)
+    let i = p .before .before .before .number .given in
+    P.placed-old (a .n) (a .slots) (now (a .ranks)) (a .at) (a .used) (a .o) (now (a .table)) (now (a .scratch)) (start .pre .1 .0) (i .0 .0) (w .meet .result) (w .meet .last .1 .1 .1 .0) (w .meet .last .1 .1 .1 .1 .0) (p .put-next .last .0) (i .1) (w .meet .ensures) (p .put-next .ensures)
 
 place-way-same-length-7 : (t : ℕ) → place-way-lts.Need-same-length-7 (
-  next-word-reads.Asked,
-  next-word-reads.Learnt,
   meet-reads.Asked,
   meet-reads.Learnt,
+  put-next-reads.Asked,
+  put-next-reads.Learnt,
   place-state-below t,
   place-state.Post,
 ) (place-way-at t) place-way.Post
 place-way-same-length-7 t c = search needs
 
 place-way-same-length-8 : (t : ℕ) → place-way-lts.Need-same-length-8 (
-  next-word-reads.Asked,
-  next-word-reads.Learnt,
   meet-reads.Asked,
   meet-reads.Learnt,
+  put-next-reads.Asked,
+  put-next-reads.Learnt,
   place-state-below t,
   place-state.Post,
 ) (place-way-at t) place-way.Post
 place-way-same-length-8 t c = search needs
 
 place-way-same-length-9 : (t : ℕ) → place-way-lts.Need-same-length-9 (
-  next-word-reads.Asked,
-  next-word-reads.Learnt,
   meet-reads.Asked,
   meet-reads.Learnt,
+  put-next-reads.Asked,
+  put-next-reads.Learnt,
   place-state-below t,
   place-state.Post,
 ) (place-way-at t) place-way.Post
 place-way-same-length-9 t c = search needs
 
 place-way-returns-3 : (t : ℕ) → place-way-lts.Need-returns-3 (
-  next-word-reads.Asked,
-  next-word-reads.Learnt,
   meet-reads.Asked,
   meet-reads.Learnt,
+  put-next-reads.Asked,
+  put-next-reads.Learnt,
   place-state-below t,
   place-state.Post,
 ) (place-way-at t) place-way.Post
 place-way-returns-3 t c =
     let w = c .before .before .before .before .before .before .before .before in
-    let start = w .before .before .before .before .before .before .before .before .before in
+    let start = w .before .before .before .before .before .before .before .before in
     let a = start .args in
-    let nw = w .before .before .before .before .next-word in
     P.placed-slotless (a .n) (a .slots) (now (a .ranks)) (a .at) (a .used) (a .o) (now (a .table)) (now (a .scratch)) (start .pre .1 .0) (w .meet .result) (w .meet .last .1 .1 .1 .0) (w .meet .last .1 .1 .1 .1 .0) (c .enum-told .given .1) (w .meet .ensures)
 
 place-way-same-length-10 : (t : ℕ) → place-way-lts.Need-same-length-10 (
-  next-word-reads.Asked,
-  next-word-reads.Learnt,
   meet-reads.Asked,
   meet-reads.Learnt,
+  put-next-reads.Asked,
+  put-next-reads.Learnt,
   place-state-below t,
   place-state.Post,
 ) (place-way-at t) place-way.Post
-place-way-same-length-10 t c =
-    let v = c .before .before .before .before .before .before .before .before .before in
-    let w = v .before .before .before .before .before .before .before .before .before .before .before .before in
-    let start = w .before .before .before .before .before .before .before .before .before in
-    let a = start .args in
-    let nw = w .before .before .before .before .next-word in
-    length-set (v .place-state .last .1 .1 .1 .0) (recordWords * a .at + nw .result) (a .used) ∙ v .place-state .kept .1 .1 .1 .0 ∙ w .meet .kept .1 .1 .1 .0
+place-way-same-length-10 t c = search needs
 
 place-way-same-length-11 : (t : ℕ) → place-way-lts.Need-same-length-11 (
-  next-word-reads.Asked,
-  next-word-reads.Learnt,
   meet-reads.Asked,
   meet-reads.Learnt,
+  put-next-reads.Asked,
+  put-next-reads.Learnt,
   place-state-below t,
   place-state.Post,
 ) (place-way-at t) place-way.Post
 place-way-same-length-11 t c = search needs
 
 place-way-same-length-12 : (t : ℕ) → place-way-lts.Need-same-length-12 (
-  next-word-reads.Asked,
-  next-word-reads.Learnt,
   meet-reads.Asked,
   meet-reads.Learnt,
+  put-next-reads.Asked,
+  put-next-reads.Learnt,
   place-state-below t,
   place-state.Post,
 ) (place-way-at t) place-way.Post
 place-way-same-length-12 t c = search needs
 
 place-way-returns-4 : (t : ℕ) → place-way-lts.Need-returns-4 (
-  next-word-reads.Asked,
-  next-word-reads.Learnt,
   meet-reads.Asked,
   meet-reads.Learnt,
+  put-next-reads.Asked,
+  put-next-reads.Learnt,
   place-state-below t,
   place-state.Post,
 ) (place-way-at t) place-way.Post
 place-way-returns-4 t c =
-    let v = c .before .before .before .before .before .before .before .before .before in
+    let p = c .before .before in
+    let v = p .before .before .before .before .before .before .before .before .before .before .before in
     let w = v .before .before .before .before .before .before .before .before .before .before .before .before in
-    let start = w .before .before .before .before .before .before .before .before .before in
+    let start = w .before .before .before .before .before .before .before .before in
     let a = start .args in
-    let nw = w .before .before .before .before .next-word in
     let e = v .before .before .before .before .enum-told2 in
-    let u = c .before .placed .given in
-    P.placed-new (a .n) (a .slots) (now (a .ranks)) (a .at) (a .used) (a .o) (now (a .table)) (now (a .scratch)) (start .pre .1 .0) (start .pre .1 .1 .1) (w .meet .result) (w .meet .last .1 .1 .1 .0) (w .meet .last .1 .1 .1 .1 .0) (e .given .1) (w .meet .ensures) (nw .result) (u .0 .0) (v .place-state .result) (v .place-state .last .1 .1 .1 .0) (v .place-state .last .1 .1 .1 .1 .0) (nw .ensures) (u .1) (v .place-state .ensures)
+    let u = p .before .before .before .placed .given in
+    P.placed-new (a .n) (a .slots) (now (a .ranks)) (a .at) (a .used) (a .o) (now (a .table)) (now (a .scratch)) (start .pre .1 .0) (start .pre .1 .1 .1) (w .meet .result) (w .meet .last .1 .1 .1 .0) (w .meet .last .1 .1 .1 .1 .0) (e .given .1) (w .meet .ensures) (u .0 .0) (v .place-state .result) (v .place-state .last .1 .1 .1 .0) (v .place-state .last .1 .1 .1 .1 .0) (p .put-next2 .last .0) (u .1) (v .place-state .ensures) (p .put-next2 .ensures)
 
 pub +place-state+place-way-spec : {M : Type 1} → statement M
 +place-state+place-way-spec = close μ-place-state μ-place-way (λ t. place-state-lts.spec (
@@ -744,23 +672,19 @@ pub +place-state+place-way-spec : {M : Type 1} → statement M
     (place-state-same-length-10 t)
     (place-state-returns-4 t))
     λ t. place-way-lts.spec (
-      next-word-reads.Asked,
-      next-word-reads.Learnt,
       meet-reads.Asked,
       meet-reads.Learnt,
+      put-next-reads.Asked,
+      put-next-reads.Learnt,
       place-state-below t,
       place-state.Post,
     )
     (place-way-at t)
     place-way.Post
-    (place-way-mul-word t)
-    (place-way-next-word-requires t)
-    (place-way-add-word t)
     (place-way-meet-requires t)
     (place-way-enum-known-number t)
-    (place-way-cast-table t)
-    (place-way-mul-table t)
-    (place-way-slice-write-table t)
+    (place-way-cast-put-next t)
+    (place-way-put-next-requires t)
     (place-way-enum-told t)
     (place-way-enum-told-2 t)
     (place-way-add-place-state t)
@@ -771,9 +695,8 @@ pub +place-state+place-way-spec : {M : Type 1} → statement M
     (place-way-same-length-2 t)
     (place-way-same-length-3 t)
     (place-way-returns t)
-    (place-way-cast-table-2 t)
-    (place-way-mul-table-2 t)
-    (place-way-slice-write-table-2 t)
+    (place-way-cast-put-next-2 t)
+    (place-way-put-next-requires-2 t)
     (place-way-same-length-4 t)
     (place-way-same-length-5 t)
     (place-way-same-length-6 t)

@@ -7,9 +7,9 @@ use native.Mathlib.Omega.{arith}
 use lib.ListN.{replicate}
 use lib.Seq.{length-front}
 use denote.Ref.{now}
-use Rattle.slots.specs.Words.{filterSlot}
-use Rattle.builder.specs.Promises.{Stored}
-use Rattle.builder.specs.Starting as S
+use Rattle.slots.specs.Words.{filterSlot, slotWords}
+use Rattle.builder.specs.inner.Promises.{Stored}
+use Rattle.builder.specs.laws.Starting as S
 use Rattle.builder.proofs.Meeting.{front-long, front-fits, front-is, front-whole}
 use Rattle.builder.proofs.Starting as A
 use borrow.Author.Needs.{needs}
@@ -18,7 +18,7 @@ use Rattle.builder.proofs.start.place_start.Tie as tie
 
 -- The array that the start, and then every state, is made in.
 abbrev words : List ℕ
-words = replicate 1024 0
+words = replicate slotWords 0
 
 some-slot : (n : ℕ) → (n ≡ 0 → ⊥) → 0 < n
 some-slot n h = omega arith

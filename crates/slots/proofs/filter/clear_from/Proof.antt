@@ -1,7 +1,7 @@
 -- `slots::filter::clear_from` meets its contract. The loop's invariant: clearing from where the loop stands gives what clearing from the start gives.
 -- Assumes nothing.
 use Rattle.slots.proofs.Cutting.{cleared-step, cleared-all}
-use Rattle.slots.specs.Steps.{cleared}
+use Rattle.slots.specs.inner.Steps.{clearedFrom}
 use lib.ListN.{length, length-set}
 use native.Mathlib.Omega.{arith}
 use mathlib.Core.Path.{_≡_, refl, sym, _∙_}
@@ -11,7 +11,7 @@ use Rattle.slots.proofs.filter.clear_from.Statement.{statement}
 use Rattle.slots.proofs.filter.clear_from.Tie as tie
 
 abbrev Inv-loop : tie.InvT-loop
-Inv-loop dst₀ from i₀ dst i = (length dst ≡ length dst₀) × (cleared i dst ≡ cleared from dst₀)
+Inv-loop dst₀ from i₀ dst i = (length dst ≡ length dst₀) × (clearedFrom i dst ≡ clearedFrom from dst₀)
 
 abbrev μ-loop : tie.MeasureT-loop
 μ-loop dst₀ from i₀ dst i = length dst - i

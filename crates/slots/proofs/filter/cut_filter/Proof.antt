@@ -1,4 +1,4 @@
--- `slots::filter::cut_filter` meets its contract. A filter that is out stays out; of any other the tests are cut and the rest is cleared.
+-- `slots::filter::cut_filter` meets its contract. A filter that is out stays out; of any other the tests are cut and the rest is clearedFrom.
 -- Assumes nothing.
 use Rattle.slots.proofs.Cutting.{cut-out, cut-left}
 use mathlib.Core.Path.{_∙_}

@@ -4,7 +4,7 @@ use Rattle.residue.specs.declared.Fact.{Fact}
 use mathlib.Core.List.{List}
 use Prim.Native.Nat.{ℕ}
 use Rattle.slots.proofs.Cutting.{rest, rest-stop, rest-end, finished-start, finished-end, turn-out, turn-again}
-use Rattle.slots.specs.Steps.{finished}
+use Rattle.slots.specs.inner.Steps.{finished}
 use Rattle.slots.specs.Words.{filterSlot, writtenFilter, readItems}
 use Rattle.states.specs.States.{cut}
 use Rattle.lists.specs.Filters.{maxTests, testWords}
@@ -46,14 +46,8 @@ returns c =
     let a = c .before .before .before .before .before .before .args in
     record { words = finished-end (l .end) (l .dst) (l .inv .0) ∙ ap (finished (l .end) (l .dst)) (sym (rest-stop (a .field) (a .fact) (a .src .now) (l .test) (c .before .before .loop-test .taken) (c .if1 .taken))) ∙ l .inv .3 }
 
-add-keep : tie.Need-add-keep Inv-loop μ-loop
-add-keep c = search needs
-
-mul-keep : tie.Need-mul-keep Inv-loop μ-loop
-mul-keep c = search needs
-
-shared-slice-read-keep : tie.Need-shared-slice-read-keep Inv-loop μ-loop
-shared-slice-read-keep c = search needs
+field-at-requires : tie.Need-field-at-requires Inv-loop μ-loop
+field-at-requires c κs = search needs
 
 left-of-requires : tie.Need-left-of-requires Inv-loop μ-loop
 left-of-requires c κs = search needs
@@ -74,7 +68,7 @@ returns-2 c =
     let b = o .before .before .before in
     let l = b .before .before .before .loop in
     let a = b .before .before .before .before .before .before .args in
-    record { words = turn-out (a .field) (a .fact) (a .src .now) (l .dst) (k .keep .last .0) (l .test) (l .end) (k .keep .result) (o .left-of .result) (Whole (a .field) (a .fact) (a .src .now)) (b .before .before .loop-test .taken) (b .if1 .left) (l .inv .0) (l .inv .2) (o .left-of .ensures) (k .keep .ensures) (l .inv .3) (c .if2 .taken) }
+    record { words = turn-out (a .field) (a .fact) (a .src .now) (l .dst) (k .keep .last .0) (l .test) (l .end) (k .keep .result) (o .before .field-at .result) (o .left-of .result) (Whole (a .field) (a .fact) (a .src .now)) (b .before .before .loop-test .taken) (b .if1 .left) (l .inv .0) (l .inv .2) (o .before .field-at .ensures) (o .left-of .ensures) (k .keep .ensures) (l .inv .3) (c .if2 .taken) }
 
 add-test : tie.Need-add-test Inv-loop μ-loop
 add-test c = search needs
@@ -89,8 +83,8 @@ loop-again c =
     let b = o .before .before .before in
     let l = b .before .before .before .loop in
     let a = b .before .before .before .before .before .before .args in
-    turn-again (a .field) (a .fact) (a .src .now) (l .dst) (k .keep .last .0) (l .test) (l .end) (k .keep .result) (o .left-of .result) (Whole (a .field) (a .fact) (a .src .now))
-    (b .before .before .loop-test .taken) (b .if1 .left) (l .inv .0) (l .inv .2) (o .left-of .ensures) (k .keep .ensures) (l .inv .3) (c .if2 .left)
+    turn-again (a .field) (a .fact) (a .src .now) (l .dst) (k .keep .last .0) (l .test) (l .end) (k .keep .result) (o .before .field-at .result) (o .left-of .result) (Whole (a .field) (a .fact) (a .src .now))
+    (b .before .before .loop-test .taken) (b .if1 .left) (l .inv .0) (l .inv .2) (o .before .field-at .ensures) (o .left-of .ensures) (k .keep .ensures) (l .inv .3) (c .if2 .left)
 
 same-length-3 : tie.Need-same-length-3 Inv-loop μ-loop
 same-length-3 c = let l = c .before in l .loop .inv .0 ∙ sym (l .before .before .before .pre .target)
@@ -114,9 +108,7 @@ cut-tests-spec =
     shared-slice-read-if1
     same-length
     returns
-    add-keep
-    mul-keep
-    shared-slice-read-keep
+    field-at-requires
     left-of-requires
     keep-requires
     same-length-2

@@ -1,4 +1,4 @@
--- `slots::filter::fill` meets its contract. The tests stand in front, and what is behind them is cleared.
+-- `slots::filter::fill` meets its contract. The tests stand in front, and what is behind them is clearedFrom.
 -- Assumes nothing.
 use Rattle.slots.proofs.Starting.{fill-is}
 use lib.ListN.{drop}

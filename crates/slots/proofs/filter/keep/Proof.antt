@@ -1,6 +1,6 @@
 -- `slots::filter::keep` meets its contract. Each arm is a clause of the definitions.
 -- Assumes nothing.
-use Rattle.slots.specs.Steps.{keptWords, keptAt}
+use Rattle.slots.specs.inner.Steps.{keptWords, keptAt}
 use borrow.Author.Needs.{needs}
 use Rattle.slots.proofs.filter.keep.Statement.{statement}
 use Rattle.slots.proofs.filter.keep.Tie as tie

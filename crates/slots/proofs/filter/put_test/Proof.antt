@@ -1,6 +1,6 @@
 -- `slots::filter::put_test` meets its contract. Each arm stores the words of its kind of test.
 -- Assumes nothing.
-use Rattle.lists.specs.Accepted.{itemWords, kindOf, maskOf, valueOf}
+use Rattle.lists.specs.Words.{itemWords, kindOf, maskOf, valueOf}
 use borrow.Author.Needs.{needs}
 use Rattle.slots.proofs.filter.put_test.Statement.{statement}
 use Rattle.slots.proofs.filter.put_test.Tie as tie

@@ -31,41 +31,11 @@ mul-to c = search needs
 add-from : tie.Need-add-from Inv-loop μ-loop
 add-from c = search needs
 
-mul-test-of : tie.Need-mul-test-of Inv-loop μ-loop
-mul-test-of c = search needs
+field-at-requires : tie.Need-field-at-requires Inv-loop μ-loop
+field-at-requires c κs = search needs
 
-shared-slice-read-test-of : tie.Need-shared-slice-read-test-of Inv-loop μ-loop
-shared-slice-read-test-of c = search needs
-
-add-test-of : tie.Need-add-test-of Inv-loop μ-loop
-add-test-of c = search needs
-
-mul-test-of-2 : tie.Need-mul-test-of-2 Inv-loop μ-loop
-mul-test-of-2 c = search needs
-
-shared-slice-read-test-of-2 : tie.Need-shared-slice-read-test-of-2 Inv-loop μ-loop
-shared-slice-read-test-of-2 c = search needs
-
-add-test-of-2 : tie.Need-add-test-of-2 Inv-loop μ-loop
-add-test-of-2 c = search needs
-
-mul-test-of-3 : tie.Need-mul-test-of-3 Inv-loop μ-loop
-mul-test-of-3 c = search needs
-
-shared-slice-read-test-of-3 : tie.Need-shared-slice-read-test-of-3 Inv-loop μ-loop
-shared-slice-read-test-of-3 c = search needs
-
-test-of-requires : tie.Need-test-of-requires Inv-loop μ-loop
-test-of-requires c κs = search needs
-
-add-put-test : tie.Need-add-put-test Inv-loop μ-loop
-add-put-test c = search needs
-
-mul-put-test : tie.Need-mul-put-test Inv-loop μ-loop
-mul-put-test c = search needs
-
-shared-slice-read-put-test : tie.Need-shared-slice-read-put-test Inv-loop μ-loop
-shared-slice-read-put-test c = search needs
+test-at-requires : tie.Need-test-at-requires Inv-loop μ-loop
+test-at-requires c κs = search needs
 
 put-test-requires : tie.Need-put-test-requires Inv-loop μ-loop
 put-test-requires c κs = search needs
@@ -79,12 +49,12 @@ loop-less c = search needs
 loop-again : tie.Need-loop-again Inv-loop μ-loop
 loop-again c =
     let p = c .before .before in
-    let t = p .before .before .before in
-    let n = t .before .before .before .before in
+    let t = p .before in
+    let f = t .before in
+    let n = f .before .before in
     let l = n .before .loop in
-    let s = n .before .before .before .before in
-    let a = s .args in
-    let e = put-turn (a .at) (a .count) (l .test) (a .list .now) (l .dst) (itemsWords (itemsOf (a .count) (drop (a .at) (a .list .now)))) (t .test-of .result) (n .loop-test .taken) (omega arith) (t .test-of .ensures) (l .inv .2) in (
+    let a = n .before .before .before .before .args in
+    let e = put-turn (a .at) (a .count) (l .test) (a .list .now) (l .dst) (itemsWords (itemsOf (a .count) (drop (a .at) (a .list .now)))) (f .field-at .result) (t .test-at .result) (n .loop-test .taken) (omega arith) (f .field-at .ensures) (t .test-at .ensures) (l .inv .2) in (
       omega arith,
       p .put-test .kept .0 ∙ l .inv .1,
       ap (λ d. take (testWords * (l .test + 1)) d ++ itemsWords (itemsOf (a .count - (l .test + 1)) (drop (a .at + testWords * (l .test + 1)) (a .list .now)))) (p .put-test .ensures) ∙ e,
@@ -110,18 +80,8 @@ put-tests-spec =
     loop-holds
     mul-to
     add-from
-    mul-test-of
-    shared-slice-read-test-of
-    add-test-of
-    mul-test-of-2
-    shared-slice-read-test-of-2
-    add-test-of-2
-    mul-test-of-3
-    shared-slice-read-test-of-3
-    test-of-requires
-    add-put-test
-    mul-put-test
-    shared-slice-read-put-test
+    field-at-requires
+    test-at-requires
     put-test-requires
     add-test
     loop-less

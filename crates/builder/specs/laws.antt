@@ -1,0 +1,4 @@
+pub mod Memory
+pub mod Finished
+pub mod WaysPlaced
+pub mod Starting

@@ -1,0 +1,3 @@
+pub mod Builds
+pub mod Labelled
+pub mod Paths

@@ -1,0 +1,92 @@
+-- The puts of a frame by what it has, and a header from its puts.
+-- Assumes nothing.
+use Prim.Native.Nat.{ℕ}
+use native.Mathlib.Omega.{arith}
+use mathlib.Core.Path.{_≡_, refl, sym, _∙_}
+use mathlib.Core.Bool.{true, false, true≢false}
+use mathlib.Core.List.{List, [], _∷_, _++_}
+use borrow.Author.Tests.{le-leb}
+use lib.ListN.{length}
+use Rattle.residue.specs.laws.Choice.{by-cond, never}
+use Rattle.residue.specs.declared.Reading.{Reading}
+use Rattle.residue.specs.declared.Reading.the-variants.{Absent, Value}
+use Rattle.fields.specs.declared.ipv4.Packet.{Packet}
+use Rattle.fields.specs.declared.ipv4.Packet.the-variants.{Nothing, Whole}
+use Rattle.fields.specs.Bytes.{part}
+use Rattle.fields.specs.Puts.{Put}
+use Rattle.fields.specs.Ethernet.{ipStart, etherType, ethernet}
+use Rattle.fields.specs.Ipv4.{internet, transportStart, transportEnd, transport}
+use Rattle.fields.specs.Fields.{puts}
+use Rattle.fields.specs.Header.{Header, presentSet}
+use Rattle.fields.specs.inner.Parts.{Added, Spans, typeIn, packetIn, packetPuts}
+use Rattle.fields.specs.laws.Ipv4.{internet-lengths}
+
+pub from-puts : {f : List ℕ} {p : ℕ} {ps : List Put} {old new : List ℕ} {r : ℕ} → puts f p ≡ ps → Added ps 0 old r new → Header f p old new r
+unfolding presentSet
+from-puts e added = record { set = rw e (added .set); words = rw e (added .words) }
+
+-- What the arms of a reading and of a packet tell.
+pub is-type : (f : List ℕ) {n : ℕ} → typeIn f ≡ Value n → (ethernet f ≡ true) × (etherType f ≡ n)
+is-type f {n} =
+    by-cond (λ (r : Reading). r ≡ Value n → (ethernet f ≡ true) × (etherType f ≡ n)) (ethernet f)
+    (λ h e. (h, cc))
+    (λ h e. let z : _≡_ {A = ℕ} 0 1 = cc in absurd (omega arith))
+
+pub no-type : (f : List ℕ) → typeIn f ≡ Absent → ethernet f ≡ false
+no-type f =
+    by-cond (λ (r : Reading). r ≡ Absent → ethernet f ≡ false) (ethernet f)
+    (λ h e. let z : _≡_ {A = ℕ} 0 1 = cc in absurd (omega arith))
+    (λ h e. h)
+
+-- A packet and its transport part.
+pub record PacketAt (f : List ℕ) (start end : ℕ) : Type 0 where
+  pub has : internet f ≡ true
+  pub same : transport f ≡ part f start end
+  pub spans : Spans f start end
+
+packet-at : (f : List ℕ) → internet f ≡ true → PacketAt f (transportStart f) (transportEnd f)
+unfolding transport transportStart transportEnd
+packet-at f has =
+    let known = internet-lengths f has in
+    record {
+      has = has;
+      same = refl;
+      spans = record { whole = known .whole; order = omega arith; inside = known .inside };
+    }
+
+pub is-packet : (f : List ℕ) {start end : ℕ} → packetIn f ≡ Whole start end → PacketAt f start end
+is-packet f {start} {end} =
+    by-cond (λ (x : Packet). x ≡ Whole start end → PacketAt f start end) (internet f)
+    (λ h e.
+    let starts : transportStart f ≡ start = cc in
+    let ends : transportEnd f ≡ end = cc in
+    rw (starts, ends) at (packet-at f h))
+    (λ h e. let z : _≡_ {A = ℕ} 0 1 = cc in absurd (omega arith))
+
+pub no-packet : (f : List ℕ) → packetIn f ≡ Nothing → internet f ≡ false
+no-packet f =
+    by-cond (λ (x : Packet). x ≡ Nothing → internet f ≡ false) (internet f)
+    (λ h e. let z : _≡_ {A = ℕ} 0 1 = cc in absurd (omega arith))
+    (λ h e. h)
+
+module _ (f : List ℕ) (p : ℕ) where
+  -- A packet is in an Ethernet frame.
+  unframed : ethernet f ≡ false → internet f ≡ false
+  unfolding ethernet
+  unframed lacks =
+      never (internet f)
+      (λ (has : internet f ≡ true).
+      let known = internet-lengths f has in
+      true≢false (sym (simp (le-leb ipStart (length f) (omega arith), le-leb 1536 (etherType f) (omega arith))) ∙ lacks))
+
+  pub puts-none : ethernet f ≡ false → puts f p ≡ (13, p) ∷ []
+  unfolding puts
+  puts-none e = simp (e, unframed e)
+
+  pub puts-ethernet : ethernet f ≡ true → internet f ≡ false → puts f p ≡ (13, p) ∷ (0, etherType f) ∷ []
+  unfolding puts
+  puts-ethernet e i = simp (e, i)
+
+  pub puts-internet : {a e : ℕ} → ethernet f ≡ true → PacketAt f a e → puts f p ≡ (13, p) ∷ (0, etherType f) ∷ [] ++ packetPuts f a e
+  unfolding puts
+  puts-internet h known = simp (h, known .has, known .same)

@@ -1,0 +1,5 @@
+pub mod Bytes
+pub mod Ipv4
+pub mod Header
+pub mod Values
+pub mod Agree

@@ -1,0 +1,99 @@
+// The IPv4 header (RFC 791).
+ghost use mathlib.Core.Path.{_≡_};
+ghost use Prim.Native.Nat.{_≤_};
+ghost use lib.ListN.{length};
+ghost use Rattle.fields.specs.Ipv4.{internetPuts};
+ghost use Rattle.fields.specs.inner.Parts.{Added, Spans, packetIn, packetPuts};
+use crate::Values;
+use crate::bytes::byte_at;
+use crate::bytes::four_at;
+use crate::bytes::two_at;
+use crate::ethernet::IP_START;
+use crate::ethernet::TYPE_AT;
+use crate::put::put;
+use crate::transport;
+
+// The EtherType, and the bytes of the shortest header and of the shortest frame that has one.
+const IPV4: u32 = 0x0800;
+
+const LEAST_HEADER: usize = 20;
+
+const LEAST_FRAME: usize = IP_START + LEAST_HEADER;
+// Where the total length and the protocol stand.
+const TOTAL_AT: usize = IP_START + 2;
+
+const PROTOCOL_AT: usize = IP_START + 9;
+// The fields of this header, by their numbers.
+const TYPE_OF_SERVICE: u32 = 1;
+
+const TOTAL_LENGTH: u32 = 2;
+
+const FRAGMENT: u32 = 3;
+
+const TIME_TO_LIVE: u32 = 4;
+
+const PROTOCOL: u32 = 5;
+
+const SOURCE: u32 = 6;
+
+const DESTINATION: u32 = 7;
+
+// A packet that is whole, with the start and the end of its transport part.
+pub enum Packet {
+    Nothing,
+    Whole(usize, usize),
+}
+
+// The packet in a frame.
+pub fn packet_in(frame: &[u8]) -> Packet
+    ensures { λ r. ⌜ r ≡ packetIn (now (frame .entry)) ⌝ }
+{
+    if frame.len() < LEAST_FRAME {
+        return Packet::Nothing;
+    }
+    if two_at(frame, TYPE_AT) != IPV4 {
+        return Packet::Nothing;
+    }
+    let first = frame[IP_START] as usize;
+    if first / 16 != 4 {
+        return Packet::Nothing;
+    }
+    let header = 4 * (first % 16);
+    if header < LEAST_HEADER {
+        return Packet::Nothing;
+    }
+    let total = two_at(frame, TOTAL_AT) as usize;
+    if total < header {
+        return Packet::Nothing;
+    }
+    let start = IP_START + header;
+    let end = IP_START + total;
+    if frame.len() < end {
+        return Packet::Nothing;
+    }
+    Packet::Whole(start, end)
+}
+
+// The header's own fields.
+fn fill_header(frame: &[u8], present: u32, values: &mut Values) -> u32
+    requires { ⌜ 34 ≤ length (now frame) ⌝ }
+    ensures { λ r. ⌜ Added (internetPuts (now (frame .entry))) present (now (values .entry)) r (now (values .exit)) ⌝ }
+{
+    let mut set = put(TYPE_OF_SERVICE, byte_at(frame, 15), present, values);
+    set = put(TOTAL_LENGTH, two_at(frame, TOTAL_AT), set, values);
+    set = put(FRAGMENT, two_at(frame, 20), set, values);
+    set = put(TIME_TO_LIVE, byte_at(frame, 22), set, values);
+    set = put(PROTOCOL, byte_at(frame, PROTOCOL_AT), set, values);
+    set = put(SOURCE, four_at(frame, 26), set, values);
+    put(DESTINATION, four_at(frame, 30), set, values)
+}
+
+// The fields of a packet: the header's, and those of the transport part, which is read as a part of the frame.
+pub fn fill(frame: &[u8], start: usize, end: usize, present: u32, values: &mut Values) -> u32
+    requires { ⌜ Spans (now frame) start end ⌝ }
+    ensures { λ r. ⌜ Added (packetPuts (now (frame .entry)) start end) present (now (values .entry)) r (now (values .exit)) ⌝ }
+{
+    let protocol = byte_at(frame, PROTOCOL_AT);
+    let set = fill_header(frame, present, values);
+    transport::fill(&frame[start..end], protocol, set, values)
+}

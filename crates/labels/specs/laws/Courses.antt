@@ -1,0 +1,153 @@
+-- Where a walk over a labelled table ends: at the record of the state that a path of the frame leads to, by the table's own questions.
+--   Course x r a n   the walk from record n with a questions allowed: the record that it ends at, how many questions it asks, and the path of its states
+use Prim.Native.Nat.{ℕ, zero, suc, _+_, _≤_, _<_}
+use native.Mathlib.Omega.{arith}
+use native.Mathlib.Nat.{add-zero, zero-add, suc-add, le-refl}
+use mathlib.Core.Path.{_≡_, refl, sym, ap, _∙_, subst}
+use mathlib.Core.Logic.{_⊎_, inl, inr, ⊎-elim}
+use mathlib.Core.Bool.{Bool, true, false, cond}
+use mathlib.Core.List.{List, [], _∷_}
+use lib.Dec.{eqb}
+use lib.ListN.{getD}
+use borrow.Author.Tests.{ltb-true, lt-ltb, lt-leb}
+use Rattle.residue.specs.Tests.{holds}
+use Rattle.residue.specs.Facts.{outcomeOf}
+use Rattle.residue.specs.declared.Reading.{Reading}
+use Rattle.residue.specs.declared.Reading.the-variants as R
+use Rattle.residue.specs.declared.Outcome.the-variants.{Holds, Fails}
+use Rattle.fields.specs.Widths.{fieldCount}
+use Rattle.lists.specs.Words.{kindOf, itemWords}
+use Rattle.lists.specs.Filters.{Item, Filter, itemOf}
+use Rattle.lists.specs.laws.Items.{kind-some, kind-known, item-round}
+use Rattle.states.specs.States.{State, nothing, questionOf, sureSet, outSet}
+use Rattle.states.specs.Runs.{wayOf}
+use Rattle.states.specs.Choices.{Leads, leads-none, leads-more, Chosen, OfFrame}
+use Rattle.states.specs.laws.Well.{item-field}
+use Rattle.states.specs.Choices.{path-of, path-free}
+use Rattle.states.specs.laws.Well.{wellState, well-left, well-step, well-leads}
+use Rattle.states.specs.laws.Keeps.{by-question, left-asks}
+use Rattle.tables.specs.Tables.{wordOf, questionAt, nextAt, wayAt, kindAt, fieldAt, holdsAt, failsAt}
+use Rattle.matcher.specs.Walk.{damaged, nextBy, nextOf, walkFrom}
+use Rattle.labels.specs.Labels.{FinalRecord, AskingRecord, LabelledBy, endedBy, shownAt}
+use Rattle.labels.specs.laws.Turns.{walk-ends, walk-stops, walk-goes}
+
+-- ---- the words of a question
+
+final-kind : (t : List ℕ) (n : ℕ) → questionAt t n ≡ 0 ∷ 0 ∷ 0 ∷ 0 ∷ [] → wordOf t n kindAt ≡ 0
+unfolding questionAt
+final-kind t n zeros = ap (λ (w : List ℕ). getD w 0 0) zeros
+
+module _ (t : List ℕ) (n : ℕ) (q : Item) (words : questionAt t n ≡ itemWords q) where
+  kind-at : wordOf t n kindAt ≡ kindOf (q .test)
+  unfolding questionAt itemWords
+  kind-at = ap (λ (w : List ℕ). getD w 0 0) words
+
+  item-at : itemOf (questionAt t n) ≡ q
+  item-at = ap itemOf words ∙ item-round q
+
+  field-at : wordOf t n fieldAt ≡ q .field
+  unfolding questionAt itemOf
+  field-at = ap (λ (x : Item). x .field) item-at
+
+  not-final : eqb (wordOf t n kindAt) 0 ≡ false
+  not-final = rw kind-at (kind-some (q .test))
+
+  undamaged : q .field < fieldCount → damaged t n ≡ false
+  unfolding damaged
+  undamaged inside = rw (kind-at, field-at, kind-known (q .test), kind-some (q .test), lt-leb fieldCount (q .field) inside)
+
+  next-by : (x : Reading) → nextBy t n x ≡ wayAt t n (outcomeOf (q .test) x)
+  unfolding nextBy wayAt nextAt outcomeOf questionAt itemOf
+  next-by R.Absent = refl
+  next-by (R.Value x) =
+      ap (λ (u : Item). cond (holds (u .test) x) (wordOf t n holdsAt) (wordOf t n failsAt)) item-at ∙ go (holds (q .test) x)
+    where
+      go : (b : Bool) → cond b (wordOf t n holdsAt) (wordOf t n failsAt) ≡ wayAt t n (cond b Holds Fails)
+      go true = refl
+      go false = refl
+
+  next-of : (r : ℕ → Reading) → nextOf t r n ≡ wayAt t n (wayOf r q)
+  unfolding nextOf wayOf
+  next-of r = ap (λ (i : ℕ). nextBy t n (r i)) field-at ∙ next-by (r (q .field))
+
+-- ---- the walk
+
+module _ {May : Item → State → Type 0} {fs : List Filter} {t : List ℕ} {m : ℕ} (x : LabelledBy May fs t m) (r : ℕ → Reading) where
+  pub record Course (a n : ℕ) : Type 0 where
+    pub end : ℕ
+    pub count : ℕ
+    pub inside : end < m
+    pub path : Leads fs (OfFrame r May) count (x .give n) (x .give end)
+    pub within : count ≤ a
+    pub ended : (count ≡ a) ⊎ (questionOf (x .give end) ≡ nothing)
+    -- With d more allowed it goes on from there.
+    pub on : (d k : ℕ) → walkFrom t m r (a + d) k n ≡ walkFrom t m r d (k + count) end
+
+  module _ (chosen : (q : Item) (s : State) → May q s → Chosen q s) where
+    field-inside : (n : ℕ) → wellState (x .give n) ≡ true → (y : AskingRecord May fs t m (x .give) n) → y .question .field < fieldCount
+    field-inside n h y =
+        let q = y .question in
+        ltb-true (q .field) fieldCount (item-field q (well-left (x .give n) q h (chosen q (x .give n) (y .may))))
+
+    -- What is shown at a record where nothing more is allowed.
+    pub stopped-shows : (k n : ℕ) → n < m → wellState (x .give n) ≡ true → walkFrom t m r 0 k n ≡ shownAt fs (x .give n) k
+    unfolding shownAt endedBy
+    stopped-shows k n l h =
+        ⊎-elim
+        (λ (f : FinalRecord t n (x .give n)). walk-ends t m r k n 0 (final-kind t n (f .zeros)) ∙ rw (x .sures n l, x .outs n l, f .none))
+        (λ (y : AskingRecord May fs t m (x .give) n).
+        let q = y .question in
+        by-question (walkFrom t m r 0 k n ≡ endedBy (questionOf (x .give n)) (sureSet fs (x .give n)) (outSet fs (x .give n)) k) (x .give n)
+        (λ e. absurd (left-asks q (x .give n) (chosen q (x .give n) (y .may)) e))
+        (λ p e.
+        walk-stops t m r k n (undamaged t n q (y .words) (field-inside n h y)) (not-final t n q (y .words)) ∙ rw (x .sures n l, x .outs n l, e)))
+        (x .each n l)
+
+    pub walk-course : (a n : ℕ) → n < m → wellState (x .give n) ≡ true → Course a n
+    walk-course zero n l h =
+        record { end = n; count = 0; inside = l; path = leads-none; within = le-refl 0; ended = inl refl; on = λ d k. rw (zero-add d, add-zero k) }
+    walk-course (suc a) n l h =
+        ⊎-elim
+        (λ (f : FinalRecord t n (x .give n)).
+        let z = final-kind t n (f .zeros) in
+        record {
+          end = n;
+          count = 0;
+          inside = l;
+          path = leads-none;
+          within = omega arith;
+          ended = inr (f .none);
+          on = λ d k. walk-ends t m r k n (suc a + d) z ∙ rw (add-zero k) (sym (walk-ends t m r k n d z));
+        })
+        (λ (y : AskingRecord May fs t m (x .give) n).
+        let q = y .question in
+        let o = wayOf r q in
+        let step = y .leads o in
+        let rest = walk-course a (wayAt t n o) (y .inside o) (rw step (well-step fs o q (x .give n) h)) in
+        record {
+          end = rest .end;
+          count = suc (rest .count);
+          inside = rest .inside;
+          path = leads-more q o (y .may, refl) (subst (λ (s : State). Leads fs (OfFrame r May) (rest .count) s (x .give (rest .end))) step (rest .path));
+          within = let w = rest .within in omega arith;
+          ended = ⊎-elim (λ (e : rest .count ≡ a). inl (ap suc e)) inr (rest .ended);
+          on = λ d k.
+              ap (λ (b : ℕ). walkFrom t m r b k n) (suc-add a d)
+              ∙ walk-goes t m r k n (a + d) (undamaged t n q (y .words) (field-inside n h y)) (not-final t n q (y .words))
+              (rw (next-of t n q (y .words) r) (lt-ltb _ _ (y .inside o)))
+              ∙ ap (walkFrom t m r (a + d) (k + 1)) (next-of t n q (y .words) r)
+              ∙ rest .on d (k + 1)
+              ∙ ap (λ (c : ℕ). walkFrom t m r d c (rest .end)) (omega arith);
+        })
+        (x .each n l)
+
+    -- So a walk shows the state of its path, which is well formed like the one that it came from.
+    module _ (a n : ℕ) (l : n < m) (h : wellState (x .give n) ≡ true) where
+      abbrev w : Course a n
+      w = walk-course a n l h
+
+      pub end-well : wellState (x .give (w .end)) ≡ true
+      end-well = well-leads (path-free fs r (path-of fs r chosen (w .path))) h
+
+      pub walk-shows : (k : ℕ) → walkFrom t m r a k n ≡ shownAt fs (x .give (w .end)) (k + w .count)
+      walk-shows k = ap (λ (b : ℕ). walkFrom t m r b k n) (sym (add-zero a)) ∙ w .on 0 k ∙ stopped-shows (k + w .count) (w .end) (w .inside) end-well

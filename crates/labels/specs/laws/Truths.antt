@@ -1,0 +1,204 @@
+-- Demands 2 and 3 over a labelled table, with its own questions in place of document 01's: what a walk shows is what a path of the frame tells.
+--   Shows May fs r a w   the answer w, with a questions allowed, is that of the state that a path of the frame leads to, by questions that May allows
+use Prim.Native.Nat.{ℕ, _+_, _-_, _≤_, _<_}
+use native.Mathlib.Omega.{arith}
+use native.Mathlib.Nat.{zero-add}
+use mathlib.Core.Path.{_≡_, refl, sym, ap, ap₂, _∙_, subst}
+use mathlib.Core.Logic.{_⊎_, inl, inr, ⊎-elim}
+use mathlib.Core.Bool.{Bool, true, false, not, _&&_, false≢true}
+use mathlib.Core.List.{List}
+use lib.Dec.{ltb}
+use lib.ListN.{length}
+use borrow.Author.Tests.{lt-ltb, le-ltb, ne-eqb}
+use Rattle.residue.specs.laws.Choice.{both, first, second}
+use Rattle.residue.specs.declared.Reading.{Reading}
+use Rattle.fields.specs.Ethernet.{maxFrame}
+use Rattle.fields.specs.Fields.{field}
+use Rattle.fields.specs.laws.Values.{value-in-width}
+use Rattle.sets.specs.Sets.{member}
+use Rattle.lists.specs.inner.Well.{wellFilters}
+use Rattle.lists.specs.Filters.{Item, Filter, testsIn}
+use Rattle.lists.specs.Ranks.{fires, matches}
+use Rattle.states.specs.States.{State, start, Question, nothing, ask, questionOf, standing, isOut, sure, isOpen, sureSet, outSet}
+use Rattle.states.specs.Runs.{run, askedIn}
+use Rattle.states.specs.Choices.{Leads, Chosen, Picked, OfFrame, Free, path-of, path-free}
+use Rattle.states.specs.laws.Keeps.{picks-run}
+use Rattle.states.specs.laws.Well.{wellState, well-start}
+use Rattle.states.specs.laws.Truth.{InWidths}
+use Rattle.states.specs.laws.Stays.{leads-sure, leads-out}
+use Rattle.states.specs.laws.Paths.{member-sure, member-out, PathTruth, path-truth}
+use Rattle.tables.specs.Tables.{slotsOf}
+use Rattle.matcher.specs.Walk.{Shown, walkFrom, walk}
+use Rattle.labels.specs.Labels.{LabelledBy, endedBy, shownAt, Legal}
+use Rattle.labels.specs.laws.Courses.{Course, walk-course, end-well, walk-shows}
+
+-- ---- what is shown of a state
+
+module _ (fs : List Filter) (s : State) (k : ℕ) where
+  shown-words : (shownAt fs s k .sure ≡ sureSet fs s) × (shownAt fs s k .out ≡ outSet fs s) × (shownAt fs s k .asked ≡ k)
+  unfolding shownAt endedBy
+  shown-words = go (questionOf s)
+    where
+      go : (a : Question) →
+          (endedBy a (sureSet fs s) (outSet fs s) k .sure ≡ sureSet fs s) × (endedBy a (sureSet fs s) (outSet fs s) k .out ≡ outSet fs s) ×
+          (endedBy a (sureSet fs s) (outSet fs s) k .asked ≡ k)
+      go nothing = (refl, refl, refl)
+      go (ask q) = (refl, refl, refl)
+
+  pub done-shown : questionOf s ≡ nothing → shownAt fs s k .ended ≡ 1
+  unfolding shownAt endedBy
+  done-shown e = rw e
+
+  pub sure-member : (i : ℕ) → member i (shownAt fs s k .sure) ≡ (ltb i (length fs) && sure fs s i)
+  sure-member i = ap (member i) (shown-words .0) ∙ member-sure fs s i
+
+  pub out-member : (i : ℕ) → member i (shownAt fs s k .out) ≡ (ltb i (length fs) && isOut (standing s i))
+  out-member i = ap (member i) (shown-words .1) ∙ member-out fs s i
+
+  pub asked-shown : shownAt fs s k .asked ≡ k
+  asked-shown = shown-words .2
+
+  -- In neither set is open.
+  pub open-member : (i : ℕ) → i < length fs → (not (member i (shownAt fs s k .sure)) && not (member i (shownAt fs s k .out))) ≡ isOpen fs s i
+  unfolding isOpen
+  open-member i inside = rw (sure-member i, out-member i, lt-ltb i (length fs) inside)
+
+-- A path takes back nothing of what is shown.
+module _ (fs : List Filter) {j : ℕ} {s s' : State} (p : Leads fs Free j s s') (k k' i : ℕ) where
+  abbrev here : Bool
+  here = ltb i (length fs)
+
+  shown-keeps :
+      (member i (shownAt fs s k .sure) ≡ true → member i (shownAt fs s' k' .sure) ≡ true) × (member i (shownAt fs s k .out) ≡ true → member i (shownAt fs s' k' .out) ≡ true)
+  shown-keeps =
+      rw (sure-member fs s k i, sure-member fs s' k' i, out-member fs s k i, out-member fs s' k' i)
+      (λ e. both here _ (first here _ e) (leads-sure fs p i (second here _ e)), λ e. both here _ (first here _ e) (leads-out fs p i (second here _ e)))
+
+matches-within : (fs : List Filter) (r : ℕ → Reading) (i : ℕ) → (ltb i (length fs) && matches fs r i) ≡ matches fs r i
+unfolding matches fires
+matches-within fs r i = go (ltb i (length fs)) _ _
+  where
+    go : (b c d : Bool) → (b && (b && c && d)) ≡ (b && c && d)
+    go true c d = refl
+    go false c d = refl
+
+-- ---- what the state of a path shows
+
+pub record Shows (May : Item → State → Type 0) (fs : List Filter) (r : ℕ → Reading) (a : ℕ) (w : Shown) : Type 0 where
+  pub state : State
+  pub count : ℕ
+  pub path : Leads fs (OfFrame r May) count (start fs) state
+  pub within : count ≤ a
+  pub ended : (count ≡ a) ⊎ (questionOf state ≡ nothing)
+  pub shown : w ≡ shownAt fs state count
+
+-- Where document 01's questions are asked it is the state of document 01's path.
+pub picked-run : {fs : List Filter} {r : ℕ → Reading} {a : ℕ} {w : Shown} → Shows Picked fs r a w → w ≡ shownAt fs (run fs r a (start fs)) (askedIn fs r a (start fs))
+picked-run {fs} {r} {a} x =
+    let e = picks-run fs r a (x .path) (x .within) (x .ended) in
+    x .shown ∙ ap₂ (shownAt fs) (sym (e .0)) (sym (e .1))
+
+module _ {May : Item → State → Type 0} (chosen : (q : Item) (s : State) → May q s → Chosen q s) {fs : List Filter} (well : wellFilters fs ≡ true) {r : ℕ → Reading}
+    (widths : InWidths r) {a : ℕ} {w : Shown} (x : Shows May fs r a w) where
+  truth : PathTruth fs r (x .count) (x .state)
+  truth = path-truth fs r well widths (path-of fs r chosen (x .path))
+
+  sures : (i : ℕ) → member i (w .sure) ≡ (ltb i (length fs) && sure fs (x .state) i)
+  sures i = rw (x .shown) (sure-member fs (x .state) (x .count) i)
+
+  outs : (i : ℕ) → member i (w .out) ≡ (ltb i (length fs) && isOut (standing (x .state) i))
+  outs i = rw (x .shown) (out-member fs (x .state) (x .count) i)
+
+  -- Nothing is left to ask once as much is allowed as the list has tests.
+  final : testsIn fs ≤ a → questionOf (x .state) ≡ nothing
+  final enough = ⊎-elim (λ (e : x .count ≡ a). truth .ended (omega arith)) (λ e. e) (x .ended)
+
+  -- Then the walk is done, the sure filters are the match set, and each filter of the list is sure or out.
+  pub shows-done : testsIn fs ≤ a → w .ended ≡ 1
+  shows-done enough = rw (x .shown) (done-shown fs (x .state) (x .count) (final enough))
+
+  pub shows-matches : testsIn fs ≤ a → (i : ℕ) → member i (w .sure) ≡ matches fs r i
+  shows-matches enough i = sures i ∙ ap (λ (b : Bool). ltb i (length fs) && b) (truth .settled (final enough) i) ∙ matches-within fs r i
+
+  pub shows-settled : testsIn fs ≤ a → (i : ℕ) → i < length fs → (member i (w .sure) ≡ true) ⊎ (member i (w .out) ≡ true)
+  shows-settled enough i inside =
+      go (member i (w .sure)) (member i (w .out)) refl refl (rw (x .shown) (open-member fs (x .state) (x .count) i inside ∙ truth .none-open (final enough) i))
+    where
+      go : (b c : Bool) → member i (w .sure) ≡ b → member i (w .out) ≡ c → (not b && not c) ≡ false → (member i (w .sure) ≡ true) ⊎ (member i (w .out) ≡ true)
+      go true c e z n = inl e
+      go false true e z n = inr z
+      go false false e z n = absurd (false≢true (sym n))
+
+  -- Whatever is allowed, a sure filter is in the match set and an out one is not, and no more is asked than allowed, nor than the list has tests.
+  pub shows-sure : (i : ℕ) → member i (w .sure) ≡ true → matches fs r i ≡ true
+  shows-sure i e = truth .sure-true i (second (ltb i (length fs)) _ (sym (sures i) ∙ e))
+
+  pub shows-out : (i : ℕ) → member i (w .out) ≡ true → matches fs r i ≡ false
+  shows-out i e = truth .out-true i (second (ltb i (length fs)) _ (sym (outs i) ∙ e))
+
+  pub shows-asked : (w .asked ≤ a) × (w .asked ≤ testsIn fs)
+  shows-asked =
+      let count : w .asked ≡ x .count = rw (x .shown) (asked-shown fs (x .state) (x .count)) in
+      let within = x .within in
+      (omega arith, omega (arith, truth .few))
+
+-- ---- a walk over a labelled table
+
+pub legal-widths : (f : List ℕ) (p : ℕ) → Legal f p → InWidths (field f p)
+legal-widths f p legal n = value-in-width f p (legal .bytes) (legal .port) n
+
+module _ {May : Item → State → Type 0} (chosen : (q : Item) (s : State) → May q s → Chosen q s) {fs : List Filter} (well : wellFilters fs ≡ true) {t : List ℕ} {m : ℕ}
+    (x : LabelledBy May fs t m) (f : List ℕ) (p : ℕ) (legal : Legal f p) where
+  abbrev r : ℕ → Reading
+  r = field f p
+
+  starts : (a : ℕ) → walk f p t m a ≡ walkFrom t m r a 0 0
+  unfolding walk
+  starts a =
+      let some = x .some in
+      let short : length f ≤ maxFrame = omega (arith, legal .short) in
+      rw (le-ltb maxFrame (length f) short, ne-eqb m 0 (λ (z : m ≡ 0). omega arith), le-ltb (slotsOf t) m (x .fits))
+
+  first-well : wellState (x .give 0) ≡ true
+  first-well = rw (x .first) (well-start fs well)
+
+  abbrev walks : (a : ℕ) → Course x r a 0
+  walks a = walk-course x r chosen a 0 (x .some) first-well
+
+  -- It shows the state of a path, to which it has come by as many questions as are allowed, or which is final.
+  pub labelled-shows : (a : ℕ) → Shows May fs r a (walk f p t m a)
+  labelled-shows a =
+      let w = walks a in
+      record {
+        state = x .give (w .end);
+        count = w .count;
+        path = subst (λ (s : State). Leads fs (OfFrame r May) (w .count) s (x .give (w .end))) (x .first) (w .path);
+        within = w .within;
+        ended = w .ended;
+        shown = starts a ∙ walk-shows x r chosen a 0 (x .some) first-well 0 ∙ ap (shownAt fs (x .give (w .end))) (zero-add (w .count));
+      }
+
+  -- With more allowed the walk goes on from there, so it takes nothing back.
+  module _ (a d : ℕ) where
+    abbrev after : Course x r d (walks a .end)
+    after = walk-course x r chosen d (walks a .end) (walks a .inside) (end-well x r chosen a 0 (x .some) first-well)
+
+    after-shows : walk f p t m (a + d) ≡ shownAt fs (x .give (after .end)) (0 + walks a .count + after .count)
+    after-shows =
+        starts (a + d) ∙ walks a .on d 0 ∙ walk-shows x r chosen d (walks a .end) (walks a .inside) (end-well x r chosen a 0 (x .some) first-well) (0 + walks a .count)
+
+    after-led : Leads fs Free (after .count) (labelled-shows a .state) (x .give (after .end))
+    unfolding labelled-shows
+    after-led = path-free fs r (path-of fs r chosen (after .path))
+
+    after-keeps :
+        (i : ℕ) → (member i (walk f p t m a .sure) ≡ true → member i (walk f p t m (a + d) .sure) ≡ true) ×
+        (member i (walk f p t m a .out) ≡ true → member i (walk f p t m (a + d) .out) ≡ true)
+    after-keeps i = rw (labelled-shows a .shown, after-shows) (shown-keeps fs after-led (labelled-shows a .count) (0 + walks a .count + after .count) i)
+
+  pub labelled-keeps :
+      (a a' i : ℕ) → a ≤ a' →
+      (member i (walk f p t m a .sure) ≡ true → member i (walk f p t m a' .sure) ≡ true) × (member i (walk f p t m a .out) ≡ true → member i (walk f p t m a' .out) ≡ true)
+  labelled-keeps a a' i more =
+      let e : a + (a' - a) ≡ a' = omega arith in
+      rw (← e) (after-keeps a (a' - a) i)

@@ -1,0 +1,2 @@
+pub mod Well
+pub mod Columns

@@ -1,0 +1,6 @@
+pub mod Faults
+pub mod Items
+pub mod Walking
+pub mod Accepted
+pub mod Ranking
+pub mod Topmost

@@ -1,0 +1,10 @@
+pub mod Asked
+pub mod Every
+pub mod Keeps
+pub mod Measure
+pub mod Paths
+pub mod Standings
+pub mod Stays
+pub mod Sure
+pub mod Truth
+pub mod Well
