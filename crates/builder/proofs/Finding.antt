@@ -13,7 +13,7 @@ use Rattle.sets.specs.Sets.{tally}
 use Rattle.sets.specs.laws.Members.{tally-more}
 use Rattle.slots.specs.Words.{filterSlot, slotWords}
 use Rattle.slots.specs.inner.Slots.{sameWords, questionIn, asksIn}
-use Rattle.machine.specs.Box.{slotsIn}
+use Rattle.machine.specs.inner.Slots.{slotsIn}
 use Rattle.automaton.specs.Machines.{Machine, meets, placeOf}
 use Rattle.automaton.specs.laws.Lists.{Begins, begins-refl, begins-append, begins-trans}
 use Rattle.automaton.specs.laws.Places.{meets-append, place-begins}

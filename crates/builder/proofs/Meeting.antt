@@ -13,7 +13,7 @@ use Rattle.lists.specs.Filters.{itemOf}
 use Rattle.slots.specs.Words.{filterSlot, slotWords}
 use Rattle.slots.specs.inner.Slots.{questionIn, stepQuestion, stepWords}
 use Rattle.slots.specs.inner.Steps.{Stepped}
-use Rattle.machine.specs.Box.{slotsIn}
+use Rattle.machine.specs.inner.Slots.{slotsIn}
 use Rattle.automaton.specs.Machines.{meets, placeOf}
 use Rattle.automaton.specs.laws.Places.{place-below}
 use Rattle.builder.specs.inner.Memory.{slotAt, statesIn, foundIn}

@@ -12,7 +12,7 @@ use Rattle.tables.specs.Tables.{recordWords}
 use Rattle.slots.specs.Words.{filterSlot, slotWords}
 use Rattle.slots.specs.inner.Steps.{Starts}
 use Rattle.builder.specs.inner.Promises.{Ready, Store}
-use Rattle.builder.specs.Building.{Startable}
+use Rattle.builder.specs.inner.Started.{Startable}
 
 module _ (n slots : ℕ) (ranks l t s : List ℕ) (able : Startable n slots ranks l t s) where
   pub start-few : n ≤ maxFilters

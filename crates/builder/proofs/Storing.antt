@@ -7,12 +7,13 @@ use native.Mathlib.Omega.{arith}
 use borrow.Rule.Slice.PartMut.{midOf, putMid}
 use lib.ListN.{length, take, drop}
 use Rattle.words.specs.laws.Lending.{later, put-before, put-there, put-behind}
-use Rattle.tables.specs.Tables.{recordWords, freshRecord, recordAt}
+use Rattle.tables.specs.Tables.{recordWords}
+use Rattle.tables.specs.inner.Records.{freshRecord, recordAt}
 use Rattle.tables.specs.laws.Layout.{record-long}
 use Rattle.slots.specs.Words.{filterSlot, slotWords}
 use Rattle.slots.specs.inner.Slots.{questionIn, sureSetIn, outSetIn}
 use Rattle.slots.specs.laws.Written.{length-question}
-use Rattle.machine.specs.Box.{slotsIn}
+use Rattle.machine.specs.inner.Slots.{slotsIn}
 use Rattle.automaton.specs.inner.Placing.{freshOf, stored}
 use Rattle.builder.specs.inner.Memory.{slotAt, statesIn, recordsAt, memoryOf}
 use Rattle.builder.specs.laws.Memory.{states-more, records-more}

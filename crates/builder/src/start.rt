@@ -5,7 +5,7 @@ use crate::place::place_state;
 use slots::FILTER_WORDS;
 use slots::SLOT_WORDS;
 ghost use Rattle.lists.specs.Filters.{filtersOf};
-ghost use Rattle.builder.specs.Building.{Started, Startable};
+ghost use Rattle.builder.specs.inner.Started.{Started, Startable};
 
 // Places the start and its ways. The words of the start become the room in which every later state is made.
 pub fn place_start(

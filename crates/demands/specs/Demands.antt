@@ -32,7 +32,7 @@ use Rattle.matcher.specs.Walk.{Shown, walk}
 use Rattle.builder.specs.Outcome.{Left, scratchWords, outcome}
 use Rattle.labels.specs.Labels.{shownAt, Legal}
 use Rattle.demands.specs.laws.Builds.{build-full, build-fits}
-use Rattle.demands.specs.Settled.{exact, all-done, all-matches, open-so, sure-so, out-so, sure-kept, out-kept, none-left, asked-few}
+use Rattle.demands.specs.laws.Settled.{exact, all-done, all-matches, open-so, sure-so, out-so, sure-kept, out-kept, none-left, asked-few}
 use Rattle.demands.specs.laws.Paths.{once}
 
 module _ (l t s : List ℕ) where

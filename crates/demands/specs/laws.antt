@@ -1,3 +1,5 @@
 pub mod Builds
 pub mod Labelled
 pub mod Paths
+pub mod Settled
+pub mod Whole

@@ -1,6 +1,5 @@
 -- The public calls' answers as the fields of C structs.
 --   classified a   the five numbers of a walk's answer
---   Numbers        the two numbers of building's answer
 --   Compiled       an answer and the words afterwards are those of an outcome of building
 use mathlib.Core.Path.{_≡_}
 use Prim.Native.Nat.{ℕ}
@@ -20,6 +19,3 @@ pub record Compiled (l : B.Left) (b : FilterboxBuilt) (t s : List ℕ) : Type 0 
   pub number : b .number ≡ l .answer .number
   pub table : t ≡ l .table
   pub scratch : s ≡ l .scratch
-
-abbrev pub Numbers : FilterboxBuilt → B.Shown → Type 0
-Numbers b x = (b .refusal ≡ x .refusal) × (b .number ≡ x .number)

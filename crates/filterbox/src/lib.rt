@@ -5,7 +5,8 @@ ghost use Rattle.builder.specs.Outcome.{outcome};
 ghost use Rattle.builder.specs.Outcome.{shown as B·shown};
 ghost use Rattle.matcher.specs.Walk.{walk};
 ghost use Rattle.matcher.specs.Walk.{shown as W·shown};
-ghost use Rattle.filterbox.specs.Shown.{Numbers, Compiled, classified};
+ghost use Rattle.filterbox.specs.Shown.{Compiled, classified};
+ghost use Rattle.filterbox.specs.inner.Numbers.{Numbers};
 use builder::Built;
 use matcher::Answer;
 

@@ -1,49 +1,14 @@
--- Tables whose records can be given states of a list, each the record of its state, whichever of the remaining tests it asks (document 01, "States and the table", with the table's own questions in place of the first remaining test).
---   FinalRecord t n s       record n is final: zeros in its first seven words, and no test remains in s
---   AskingRecord May fs t m give n   record n asks what may be asked of its state, and its ways lead to records of the states stepped to
---   LabelledBy May fs t m   the first m records of the table t are given states of the list fs; May says what may be asked of a state
---   Labelled fs t m         any of its remaining tests
+-- What a walk shows of the state that it ends in, and the frames that it is asked of.
 --   shownAt fs s k          what a walk answers that ends at the state s with k questions asked: done where s has no question, else stopped
 --   Legal f p               a frame that is not refused, of bytes, and a box port
 use Prim.Native.Nat.{ℕ, _≤_, _<_, _^_}
-use mathlib.Core.Path.{_≡_}
-use mathlib.Core.Logic.{_⊎_}
-use mathlib.Core.List.{List, [], _∷_}
+use mathlib.Core.List.{List}
 use lib.ListN.{length}
-use Rattle.residue.specs.declared.Outcome.{Outcome}
-use Rattle.residue.specs.declared.Outcome.the-variants.{Absent}
 use Rattle.fields.specs.Bytes.{Bytes}
 use Rattle.fields.specs.Ethernet.{maxFrame}
-use Rattle.lists.specs.Words.{itemWords}
-use Rattle.lists.specs.Filters.{Item, Filter}
-use Rattle.states.specs.States.{State, start, Question, nothing, ask, questionOf, stepBy, sureSet, outSet}
-use Rattle.states.specs.Choices.{Chosen}
-use Rattle.tables.specs.Tables.{slotsOf, wordOf, questionAt, wayAt, sureAt, outAt}
+use Rattle.lists.specs.Filters.{Filter}
+use Rattle.states.specs.States.{State, Question, nothing, ask, questionOf, sureSet, outSet}
 use Rattle.matcher.specs.Walk.{Shown, done, stopped}
-
-pub record FinalRecord (t : List ℕ) (n : ℕ) (s : State) : Type 0 where
-  pub zeros : questionAt t n ≡ 0 ∷ 0 ∷ 0 ∷ 0 ∷ []
-  pub nowhere : (o : Outcome) → wayAt t n o ≡ 0
-  pub none : questionOf s ≡ nothing
-
-pub record AskingRecord (May : Item → State → Type 0) (fs : List Filter) (t : List ℕ) (m : ℕ) (give : ℕ → State) (n : ℕ) : Type 0 where
-  pub question : Item
-  pub words : questionAt t n ≡ itemWords question
-  pub may : May question (give n)
-  pub inside : (o : Outcome) → wayAt t n o < m
-  pub leads : (o : Outcome) → give (wayAt t n o) ≡ stepBy fs o question (give n)
-
-pub record LabelledBy (May : Item → State → Type 0) (fs : List Filter) (t : List ℕ) (m : ℕ) : Type 0 where
-  pub give : ℕ → State
-  pub some : 0 < m
-  pub fits : m ≤ slotsOf t
-  pub first : give 0 ≡ start fs
-  pub each : (n : ℕ) → n < m → FinalRecord t n (give n) ⊎ AskingRecord May fs t m give n
-  pub sures : (n : ℕ) → n < m → wordOf t n sureAt ≡ sureSet fs (give n)
-  pub outs : (n : ℕ) → n < m → wordOf t n outAt ≡ outSet fs (give n)
-
-abbrev pub Labelled : List Filter → List ℕ → ℕ → Type 0
-Labelled fs t m = LabelledBy Chosen fs t m
 
 unfoldable pub endedBy : Question → ℕ → ℕ → ℕ → Shown
 endedBy nothing s o k = done s o k

@@ -1,2 +1,3 @@
 pub mod Labels
 pub mod laws
+pub mod inner

@@ -1,9 +1,8 @@
--- The machine of a list of filters (document 01, "States and the table"), and the same machine on the words of slots.
+-- The machine of a list of filters (document 01, "States and the table").
 --   boxOf fs       the states of the list fs, compared, asked and stepped
 --   levelsOf fs    more than the questions on any path
 --   statesOf fs    its states in the order of their numbers: the start is 0, ways are built holds, fails, absent
 --   recordsIn fs   the words of its records
---   slotsIn n ranks   the machine whose states are the words of a slot of n filters
 use Prim.Native.Nat.{ℕ, suc}
 use mathlib.Core.List.{List, []}
 use Rattle.lists.specs.Filters.{Filter, testsIn}
@@ -11,7 +10,6 @@ use Rattle.states.specs.States.{State, questionOf, start, step, sureSet, outSet
 use Rattle.states.specs.Runs.{asks}
 use Rattle.states.specs.Same.{sameState}
 use Rattle.automaton.specs.Machines.{Machine, visit, recordsOf}
-use Rattle.slots.specs.inner.Slots.{questionIn, asksIn, stepWords, sureSetIn, outSetIn, sameWords}
 use Rattle.slots.specs.Words.{questionWords}
 
 abbrev pub boxOf : List Filter → Machine
@@ -35,15 +33,3 @@ statesOf fs = visit (boxOf fs) (levelsOf fs) [] (start fs)
 
 unfoldable pub recordsIn : List Filter → List ℕ
 recordsIn fs = recordsOf (boxOf fs) (statesOf fs)
-
-abbrev pub slotsIn : ℕ → List ℕ → Machine
-slotsIn n ranks =
-    record {
-      State = List ℕ;
-      same = sameWords;
-      asks = λ w. asksIn n w;
-      step = λ o w. stepWords n ranks o w;
-      question = λ w. questionIn n w;
-      sure = λ w. sureSetIn n ranks w;
-      out = λ w. outSetIn n w;
-    }

@@ -1,13 +1,11 @@
 -- Document 01, "Residues", the facts and the paragraph on what a question gives.
---   isSo k r          the fact k is so of the reading r
---   wellKnown f k     the fact k speaks of a well-formed test
 --   outcomeOf t r     what the question t comes to at the reading r
 --   failsFact f t     the fact that t gives where it fails on a present field
 --   factOf f o t      the fact that the question t gives at the outcome o
 use Prim.Native.Nat.{ℕ, _+_, _-_}
-use mathlib.Core.Bool.{Bool, true, false, cond}
+use mathlib.Core.Bool.{cond}
 use lib.Dec.{leb, eqb}
-use Rattle.residue.specs.Tests.{holds, wellFormed}
+use Rattle.residue.specs.Tests.{holds}
 use Rattle.residue.specs.declared.Test.{Test}
 use Rattle.residue.specs.declared.Test.the-variants.{Equal, Differs, AtMost, AtLeast}
 use Rattle.residue.specs.declared.Reading.{Reading}
@@ -16,16 +14,6 @@ use Rattle.residue.specs.declared.Fact.{Fact}
 use Rattle.residue.specs.declared.Fact.the-variants as F
 use Rattle.residue.specs.declared.Outcome.{Outcome}
 use Rattle.residue.specs.declared.Outcome.the-variants as O
-
-unfoldable pub isSo : Fact → Reading → Bool
-isSo F.Absent R.Absent = true
-isSo F.Absent (R.Value x) = false
-isSo (F.Known t) R.Absent = false
-isSo (F.Known t) (R.Value x) = holds t x
-
-unfoldable pub wellKnown : ℕ → Fact → Bool
-wellKnown full F.Absent = true
-wellKnown full (F.Known t) = wellFormed full t
 
 unfoldable pub outcomeOf : Test → Reading → Outcome
 outcomeOf t R.Absent = O.Absent

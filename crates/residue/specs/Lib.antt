@@ -3,3 +3,4 @@ pub mod Facts
 pub mod Residues
 pub mod Relations
 pub mod laws
+pub mod inner

@@ -1,39 +1,13 @@
--- What the laws of residues speak of.
---   inWidth f r     the reading r is one of a field whose greatest number is f
---   isSettled d     the residue d is true or false
---   everyLeft p d   the test that the residue d leaves, if it leaves one, has p
+-- When two tests are the same.
 --   equalOf p u     u is an equal test whose mask and value have p; and so for each kind
 --   sameTest a b    a and b are the same test
---   narrows t u     u is t on some of its bits, and of its kind; a bound stays as it is
---   repeats q u     all that the question q asks is asked by u
---   spent q u       not all that the question q asks is asked by u
 use Prim.Native.Nat.{ℕ}
-use mathlib.Core.Bool.{Bool, true, false, not, _&&_}
-use lib.Dec.{leb, eqb}
-use lib.Bits.{bitAnd}
-use Rattle.residue.specs.Residues.{covers}
+use mathlib.Core.Bool.{Bool, false, _&&_}
+use lib.Dec.{eqb}
 use Rattle.residue.specs.declared.Test.{Test}
 use Rattle.residue.specs.declared.Test.the-variants.{Equal, Differs, AtMost, AtLeast}
-use Rattle.residue.specs.declared.Reading.{Reading}
-use Rattle.residue.specs.declared.Reading.the-variants.{Absent, Value}
-use Rattle.residue.specs.declared.Residue.{Residue}
-use Rattle.residue.specs.declared.Residue.the-variants.{True, False, Left}
 
-unfoldable pub inWidth : ℕ → Reading → Bool
-inWidth full Absent = true
-inWidth full (Value x) = leb x full
-
-unfoldable pub isSettled : Residue → Bool
-isSettled True = true
-isSettled False = true
-isSettled (Left t) = false
-
-unfoldable pub everyLeft : (Test → Bool) → Residue → Bool
-everyLeft p True = true
-everyLeft p False = true
-everyLeft p (Left t) = p t
-
--- A test of one kind whose numbers have p; maskedOf takes equal and differs alike.
+-- A test of one kind whose numbers have p.
 unfoldable pub equalOf : (ℕ → ℕ → Bool) → Test → Bool
 equalOf p (Equal m v) = p m v
 equalOf p (Differs m v) = false
@@ -45,12 +19,6 @@ differsOf p (Equal m v) = false
 differsOf p (Differs m v) = p m v
 differsOf p (AtMost c) = false
 differsOf p (AtLeast c) = false
-
-unfoldable pub maskedOf : (ℕ → ℕ → Bool) → Test → Bool
-maskedOf p (Equal m v) = p m v
-maskedOf p (Differs m v) = p m v
-maskedOf p (AtMost c) = false
-maskedOf p (AtLeast c) = false
 
 unfoldable pub atMostOf : (ℕ → Bool) → Test → Bool
 atMostOf p (Equal m v) = false
@@ -69,23 +37,3 @@ sameTest (Equal m v) u = equalOf (λ n w. eqb m n && eqb v w) u
 sameTest (Differs m v) u = differsOf (λ n w. eqb m n && eqb v w) u
 sameTest (AtMost c) u = atMostOf (eqb c) u
 sameTest (AtLeast c) u = atLeastOf (eqb c) u
-
--- Some bits are left, all of them in m, and the value is v on those bits.
-unfoldable pub fewer : ℕ → ℕ → ℕ → ℕ → Bool
-fewer m v n w = not (eqb n 0) && eqb (bitAnd n m) n && eqb (bitAnd v n) w
-
-unfoldable pub narrows : Test → Test → Bool
-narrows (Equal m v) u = equalOf (fewer m v) u
-narrows (Differs m v) u = differsOf (fewer m v) u
-narrows (AtMost c) u = atMostOf (eqb c) u
-narrows (AtLeast c) u = atLeastOf (eqb c) u
-
--- Equal and differs ask the same of the same bits.
-unfoldable pub repeats : Test → Test → Bool
-repeats (Equal k w) u = maskedOf (λ m v. covers m v k w) u
-repeats (Differs k w) u = maskedOf (λ m v. covers m v k w) u
-repeats (AtMost c) u = atMostOf (eqb c) u
-repeats (AtLeast c) u = atLeastOf (eqb c) u
-
-unfoldable pub spent : Test → Test → Bool
-spent q u = not (repeats q u)

@@ -7,15 +7,13 @@
 --   fromAtMost c t       the line x ≤ c
 --   fromAtLeast f c t    the line x ≥ c
 --   residueBy f k t      what the fact k leaves of t, on a field whose greatest number is f
---   remains d r          the residue r holds of the reading d
 use Prim.Native.Nat.{ℕ, _+_, _-_}
-use mathlib.Core.Bool.{Bool, true, false, cond, _&&_}
+use mathlib.Core.Bool.{Bool, cond, _&&_}
 use lib.Dec.{leb, ltb, eqb}
 use lib.Bits.{bitAnd}
-use Rattle.residue.specs.Tests.{holds, holdsOf, wellFormed}
+use Rattle.residue.specs.Tests.{holds}
 use Rattle.residue.specs.declared.Test.{Test}
 use Rattle.residue.specs.declared.Test.the-variants.{Equal, Differs, AtMost, AtLeast}
-use Rattle.residue.specs.declared.Reading.{Reading}
 use Rattle.residue.specs.declared.Fact.{Fact}
 use Rattle.residue.specs.declared.Fact.the-variants.{Absent, Known}
 use Rattle.residue.specs.declared.Residue.{Residue}
@@ -77,14 +75,3 @@ residueBy full (Known (Equal k w)) t = fromEqual full k w t
 residueBy full (Known (Differs k w)) t = fromDiffers k w t
 residueBy full (Known (AtMost b)) t = fromAtMost b t
 residueBy full (Known (AtLeast b)) t = fromAtLeast full b t
-
-unfoldable pub remains : Residue → Reading → Bool
-remains True r = true
-remains False r = false
-remains (Left t) r = holdsOf t r
-
--- A residue that is a well-formed test, or none at all.
-unfoldable pub wellLeft : ℕ → Residue → Bool
-wellLeft full True = true
-wellLeft full False = true
-wellLeft full (Left t) = wellFormed full t

@@ -1,9 +1,8 @@
 -- Document 01, "Tests, filters, ranks", first paragraph, and the end of "Fields".
 --   holds t x        the test t holds of the number x
 --   holdsOf t r      the test t holds of the reading r; no test holds of an absent field
---   wellFormed f t   t is a test that refusals 7 to 9 leave, on a field whose greatest number is f
 use Prim.Native.Nat.{ℕ}
-use mathlib.Core.Bool.{Bool, false, not, _&&_}
+use mathlib.Core.Bool.{Bool, false, not}
 use lib.Dec.{leb, eqb}
 use lib.Bits.{bitAnd}
 use Rattle.residue.specs.declared.Test.{Test}
@@ -22,13 +21,3 @@ holds (AtLeast c) x = leb c x
 unfoldable pub holdsOf : Test → Reading → Bool
 holdsOf t Absent = false
 holdsOf t (Value x) = holds t x
-
--- A mask that is not 0 and within the field, a value within the mask.
-unfoldable pub wellMasked : ℕ → ℕ → ℕ → Bool
-wellMasked full m v = not (eqb m 0) && leb m full && leb v full && eqb (bitAnd v m) v
-
-unfoldable pub wellFormed : ℕ → Test → Bool
-wellFormed full (Equal m v) = wellMasked full m v
-wellFormed full (Differs m v) = wellMasked full m v
-wellFormed full (AtMost c) = leb c full
-wellFormed full (AtLeast c) = leb c full

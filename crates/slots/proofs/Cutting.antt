@@ -19,7 +19,8 @@ use Rattle.fields.specs.Widths.{full}
 use Rattle.lists.specs.Filters.{Item, testWords, maxTests, itemOf}
 use Rattle.lists.specs.Words.{itemWords}
 use Rattle.states.specs.States.{Standing, out, left, keep, join, cut, cutStanding}
-use Rattle.slots.specs.Words.{filterSlot, outMark, itemsWords, outWords, writtenFilter, readItems, readFilter}
+use Rattle.slots.specs.Words.{filterSlot}
+use Rattle.slots.specs.inner.Words.{outMark, itemsWords, outWords, writtenFilter, readItems, readFilter}
 use Rattle.slots.specs.inner.Steps.{over, clearedFrom, item, leftOf, keptWords, keptAt, finished, Kept}
 
 pub put-four : (d : List ℕ) (at k f m v : ℕ) → at + testWords ≤ length d → set (set (set (set d at k) (at + 1) f) (at + 2) m) (at + 3) v ≡ over at (k ∷ f ∷ m ∷ v ∷ []) d

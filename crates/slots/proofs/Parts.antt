@@ -12,7 +12,8 @@ use lib.ListN.{length, getD, take, drop, length-append}
 use lib.Seq.{take-at, length-take-le, take-all, drop-drop}
 use Rattle.residue.specs.declared.Fact.{Fact}
 use Rattle.states.specs.States.{cutStanding}
-use Rattle.slots.specs.Words.{filterSlot, outWords, writtenFilter, readFilter}
+use Rattle.slots.specs.Words.{filterSlot}
+use Rattle.slots.specs.inner.Words.{outWords, writtenFilter, readFilter}
 use Rattle.slots.specs.inner.Slots.{closedIn, cutWords}
 
 -- ---- a part

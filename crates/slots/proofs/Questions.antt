@@ -9,7 +9,8 @@ use native.Mathlib.Omega.{arith}
 use lib.Dec.{eqb}
 use lib.ListN.{getD, drop}
 use lib.Seq.{getD-drop}
-use Rattle.slots.specs.Words.{filterSlot, outMark}
+use Rattle.slots.specs.Words.{filterSlot}
+use Rattle.slots.specs.inner.Words.{outMark}
 use Rattle.slots.specs.inner.Slots.{hasTest, fourWords, questionIn}
 use Rattle.slots.proofs.Parts.{one-less, next-drop}
 

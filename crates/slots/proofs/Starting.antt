@@ -13,7 +13,8 @@ use Rattle.lists.specs.Words.{itemWords}
 use Rattle.lists.specs.laws.Items.{length-items, items-turn, items-end}
 use Rattle.lists.specs.laws.Walking.{At, at-rest, at-end}
 use Rattle.states.specs.States.{left, allLeft}
-use Rattle.slots.specs.Words.{filterSlot, itemsWords, writtenFilter, written}
+use Rattle.slots.specs.Words.{filterSlot}
+use Rattle.slots.specs.inner.Words.{itemsWords, writtenFilter, written}
 use Rattle.slots.specs.inner.Steps.{over, clearedFrom, item}
 use Rattle.slots.proofs.Cutting.{take-over, zeros}
 use Rattle.slots.proofs.Parts.{turn}

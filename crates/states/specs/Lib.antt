@@ -1,5 +1,5 @@
 pub mod States
 pub mod Runs
 pub mod Same
-pub mod Choices
 pub mod laws
+pub mod inner

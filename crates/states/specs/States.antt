@@ -8,7 +8,6 @@
 --   questionOf s      the first remaining test of the first filter that has any
 --   stepBy fs o q s   the state after the question q came to o
 --   sure, isOut, isOpen   of a filter in a state; sureSet, outSet as bit sets
---   remaining s       how many tests remain
 use Prim.Native.Nat.{ℕ, _+_}
 use mathlib.Core.Bool.{Bool, true, false, cond, not, _&&_}
 use mathlib.Core.List.{List, [], _∷_, map}
@@ -114,11 +113,3 @@ sureSet fs s = setOf (tally (length fs) (λ i. sure fs s i))
 
 unfoldable pub outSet : List Filter → State → ℕ
 outSet fs s = setOf (tally (length fs) (λ i. isOut (standing s i)))
-
-unfoldable pub remainingIn : Standing → ℕ
-remainingIn out = 0
-remainingIn (left ts) = length ts
-
-unfoldable pub remaining : State → ℕ
-remaining [] = 0
-remaining (x ∷ s) = remainingIn x + remaining s

@@ -8,3 +8,5 @@ pub mod Stays
 pub mod Sure
 pub mod Truth
 pub mod Well
+pub mod Same
+pub mod Choices

@@ -1,2 +1,3 @@
 pub mod Tables
 pub mod laws
+pub mod inner

@@ -3,7 +3,8 @@ ghost use mathlib.Core.Path.{_≡_};
 ghost use mathlib.Core.List.{[], _∷_, _++_};
 ghost use Prim.Native.Nat.{_+_, _*_, _/_, _≤_, min};
 ghost use lib.ListN.{length, drop};
-ghost use Rattle.tables.specs.Tables.{setWords, recordWords, maxSlots, nextAt, putSet, freshRecord, withNext};
+ghost use Rattle.tables.specs.Tables.{setWords, recordWords, maxSlots, nextAt};
+ghost use Rattle.tables.specs.inner.Records.{putSet, freshRecord, withNext};
 use residue::Outcome;
 
 // The most slots of a table.

@@ -12,7 +12,8 @@ use lib.Dec.{leb}
 use lib.ListN.{length, take, drop, set, getD, length-set, take-append-drop, drop-of-length-le}
 use lib.Seq.{drop-cons, take-suc-set, drop-set-lt, drop-drop, length-take-le, append-snoc}
 use borrow.Author.Tests.{le-ltb, lt-ltb}
-use Rattle.text.specs.Text.{maxText, maxItems, maxWord, separates, isDigit, tooLong, accepted, wordsOf, counted, shown, readOf, Reads}
+use Rattle.text.specs.Text.{maxText, maxWord, separates, isDigit, tooLong, accepted, wordsOf, counted, shown, readOf, Reads}
+use Rattle.text.specs.inner.Items.{maxItems}
 use Rattle.text.specs.inner.Steps.{more, step}
 use Rattle.text.specs.declared.Place.{Place}
 use Rattle.text.specs.declared.Place.the-variants.{Between, Inside}

@@ -1,6 +1,5 @@
 -- Document 01, "Numbers to try", the paragraph on the program, and refusal 14: what a text of list words says.
 --   maxText, maxWord   16,384 bytes; 4,294,967,295
---   maxItems           so many items fit in maxText bytes, with a separator between each two
 --   separates b        the byte is a space or a line end
 --   runs t             the text cut at every separator: what stands between them, empty runs too
 --   items t            the runs that are not empty
@@ -26,9 +25,6 @@ use Rattle.text.specs.declared.Read.the-variants.{Words, Refused}
 
 abbrev pub maxText : ℕ
 maxText = 16384
-
-abbrev pub maxItems : ℕ
-maxItems = 8192
 
 abbrev pub maxWord : ℕ
 maxWord = 4294967295

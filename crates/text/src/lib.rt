@@ -2,7 +2,8 @@
 ghost use mathlib.Core.Path.{_≡_};
 ghost use Prim.Native.Nat.{_≤_};
 ghost use lib.ListN.{length};
-ghost use Rattle.text.specs.Text.{maxText, maxItems, separates, isDigit, Reads};
+ghost use Rattle.text.specs.Text.{maxText, separates, isDigit, Reads};
+ghost use Rattle.text.specs.inner.Items.{maxItems};
 ghost use Rattle.text.specs.inner.Steps.{valueAt, ended, more, step};
 
 // What a text comes to: so many words, or refusal 14.

@@ -10,7 +10,8 @@ use lib.Dec.{leb}
 use lib.ListN.{length, getD, set}
 use Rattle.residue.specs.declared.Outcome.{Outcome}
 use Rattle.residue.specs.declared.Outcome.the-variants.{Holds, Fails, Absent}
-use Rattle.tables.specs.Tables.{nextAt, freshRecord}
+use Rattle.tables.specs.Tables.{nextAt}
+use Rattle.tables.specs.inner.Records.{freshRecord}
 use Rattle.automaton.specs.Machines.{Machine, meets, placeOf}
 
 pub record Memory (M : Machine) : Type 0 where

@@ -12,7 +12,8 @@ use Rattle.residue.specs.declared.Outcome.the-variants.{Holds, Fails, Absent}
 use Rattle.tables.specs.Tables.{recordWith}
 use Rattle.automaton.specs.Machines.{Machine, meets, placeOf, visit, nextsOf, recordOf}
 use Rattle.automaton.specs.laws.Lists.{each-nil, each-cons, each-head, each-tail, each-append, Each}
-use Rattle.automaton.specs.Lawful.{Lawful, Reached, start, further}
+use Rattle.automaton.specs.Lawful.{Reached, start, further}
+use Rattle.automaton.specs.inner.Lawful.{Lawful}
 use Rattle.automaton.specs.laws.Visited.{Visits, old, final, asking, visits-exist, visits-visit}
 use Rattle.automaton.specs.laws.Reaching.{reached-good, visits-good}
 use Rattle.automaton.specs.inner.Placing.{slotless, slotted, placeAll}

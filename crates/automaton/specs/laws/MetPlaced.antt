@@ -12,7 +12,8 @@ use lib.Seq.{getD-at, set-at}
 use borrow.Author.Tests.{leb-true, leb-false, le-leb, lt-leb}
 use Rattle.residue.specs.declared.Outcome.{Outcome}
 use Rattle.residue.specs.declared.Outcome.the-variants.{Holds, Fails, Absent}
-use Rattle.tables.specs.Tables.{askWords, nextAt, recordWith, freshRecord}
+use Rattle.tables.specs.Tables.{nextAt, recordWith}
+use Rattle.tables.specs.inner.Records.{askWords, freshRecord}
 use Rattle.tables.specs.laws.Layout.{fresh-linked}
 use Rattle.automaton.specs.Machines.{Machine, meets, placeOf, nextsOf, recordOf}
 use Rattle.automaton.specs.laws.Lists.{each-head, each-tail, each-left, each-right, Each, Begins, begins-refl, begins-append, begins-trans, begins-length}

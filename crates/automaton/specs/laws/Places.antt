@@ -8,7 +8,7 @@ use mathlib.Core.List.{List, [], _∷_, _++_, append-assoc, List·Memᴰ, List·
 use lib.ListN.{length, getD}
 use Rattle.automaton.specs.Machines.{Machine, meets, placeOf}
 use Rattle.automaton.specs.laws.Lists.{each-head, each-tail, Each, Begins}
-use Rattle.automaton.specs.Lawful.{Lawful}
+use Rattle.automaton.specs.inner.Lawful.{Lawful}
 
 -- The states met, as a longer list has them.
 

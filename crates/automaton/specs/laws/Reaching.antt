@@ -11,7 +11,8 @@ use Rattle.residue.specs.declared.Outcome.{Outcome}
 use Rattle.residue.specs.declared.Outcome.the-variants.{Holds, Fails, Absent}
 use Rattle.automaton.specs.Machines.{Machine, meets, placeOf, visit}
 use Rattle.automaton.specs.laws.Lists.{each-nil, each-cons, each-append, Each}
-use Rattle.automaton.specs.Lawful.{Lawful, Reached, start, further, Distinct, distinct-none}
+use Rattle.automaton.specs.Lawful.{Reached, start, further, Distinct, distinct-none}
+use Rattle.automaton.specs.inner.Lawful.{Lawful}
 use Rattle.automaton.specs.laws.Visited.{Visits, old, final, asking, Visit, visit-visits, three-ways, visit-start, visit-distinct}
 use Rattle.automaton.specs.laws.Places.{mem-meets, meets-mem, meets-nil, place-new, place-state}
 

@@ -8,11 +8,12 @@ use mathlib.Core.Path.{_≡_, sym, ap, _∙_}
 use mathlib.Core.List.{List, [], _∷_, _++_, map, append-assoc}
 use lib.ListN.{length, getD, take, drop, length-append}
 use lib.Seq.{take-at, drop-append-add}
-use Rattle.tables.specs.Tables.{recordWords, recordAt}
+use Rattle.tables.specs.Tables.{recordWords}
+use Rattle.tables.specs.inner.Records.{recordAt}
 use Rattle.tables.specs.laws.Layout.{record-long}
 use Rattle.automaton.specs.Machines.{Machine, nextsOf, recordOf, flat, recordsOf}
 use Rattle.automaton.specs.laws.Lists.{each-head, each-tail, Each}
-use Rattle.automaton.specs.Lawful.{Lawful}
+use Rattle.automaton.specs.inner.Lawful.{Lawful}
 
 -- Parts of one length, one behind the other.
 module _ {A : Type 0} (part : A → List ℕ) (k : ℕ) where

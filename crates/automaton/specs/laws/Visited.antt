@@ -12,7 +12,8 @@ use Rattle.residue.specs.declared.Outcome.{Outcome}
 use Rattle.residue.specs.declared.Outcome.the-variants.{Holds, Fails, Absent}
 use Rattle.automaton.specs.Machines.{Machine, meets, visit, visitWays}
 use Rattle.automaton.specs.laws.Lists.{Begins, begins-refl, begins-append, begins-trans}
-use Rattle.automaton.specs.Lawful.{Lawful, Apart, apart-none, apart-more, Distinct, distinct-none, distinct-more}
+use Rattle.automaton.specs.Lawful.{Apart, apart-none, apart-more, Distinct, distinct-none, distinct-more}
+use Rattle.automaton.specs.inner.Lawful.{Lawful}
 
 pub data Visits (M : Machine) : ℕ → List (M .State) → M .State → List (M .State) → Type 0 where
   old : {f : ℕ} {met : List (M .State)} {s : M .State} → meets M met s ≡ true → Visits M f met s []

@@ -2,7 +2,7 @@
 -- Assumes nothing.
 use mathlib.Core.Path.{sym, _∙_}
 use denote.Ref.{now}
-use Rattle.builder.specs.Building as P
+use Rattle.builder.specs.laws.Building as P
 use borrow.Author.Needs.{needs}
 use Rattle.builder.proofs.build.Statement.{statement}
 use Rattle.builder.proofs.build.Tie as tie

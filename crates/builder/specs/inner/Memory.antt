@@ -8,9 +8,9 @@ use mathlib.Core.Bool.{cond}
 use mathlib.Core.List.{List}
 use lib.ListN.{take, drop}
 use Rattle.sets.specs.Sets.{tally}
-use Rattle.tables.specs.Tables.{recordAt}
+use Rattle.tables.specs.inner.Records.{recordAt}
 use Rattle.slots.specs.Words.{filterSlot, slotWords}
-use Rattle.machine.specs.Box.{slotsIn}
+use Rattle.machine.specs.inner.Slots.{slotsIn}
 use Rattle.automaton.specs.Machines.{meets, placeOf}
 use Rattle.automaton.specs.inner.Placing.{Memory, Placement, slotless, slotted}
 use Rattle.builder.specs.declared.Extent.{Extent}

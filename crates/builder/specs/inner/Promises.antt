@@ -17,7 +17,7 @@ use Rattle.tables.specs.Tables.{recordWords, maxSlots}
 use Rattle.residue.specs.declared.Outcome.{Outcome}
 use Rattle.slots.specs.Words.{filterSlot, slotWords}
 use Rattle.slots.specs.inner.Slots.{asksIn}
-use Rattle.machine.specs.Box.{slotsIn}
+use Rattle.machine.specs.inner.Slots.{slotsIn}
 use Rattle.machine.specs.inner.Remaining.{GoodWords, testsLeft}
 use Rattle.automaton.specs.Machines.{meets, placeOf}
 use Rattle.automaton.specs.inner.Placing.{Placement, stored, placeWay, placeState}

@@ -13,7 +13,8 @@ use Rattle.words.specs.Lent.{cleared}
 use Rattle.tables.specs.Tables.{recordWords, maxSlots, slotsOf}
 use Rattle.slots.specs.Words.{slotWords}
 use Rattle.builder.specs.Outcome.{accepted, Answered}
-use Rattle.builder.specs.Building.{Startable, Started, built-states, built-slotless, answered-short}
+use Rattle.builder.specs.laws.Building.{built-states, built-slotless, answered-short}
+use Rattle.builder.specs.inner.Started.{Startable, Started}
 use Rattle.builder.specs.inner.Promises.{Grown}
 use Rattle.builder.specs.declared.Extent.{Extent}
 use Rattle.builder.specs.declared.Extent.the-variants as R

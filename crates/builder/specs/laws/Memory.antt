@@ -13,7 +13,8 @@ use Rattle.sets.specs.Sets.{tally}
 use Rattle.sets.specs.laws.Members.{tally-ext, tally-more, getD-tally, length-tally}
 use Rattle.residue.specs.declared.Outcome.{Outcome}
 use Rattle.words.specs.laws.Lending.{part-kept}
-use Rattle.tables.specs.Tables.{recordWords, nextAt, recordAt, withNext}
+use Rattle.tables.specs.Tables.{recordWords, nextAt}
+use Rattle.tables.specs.inner.Records.{recordAt, withNext}
 use Rattle.tables.specs.laws.Changes.{record-kept, next-same, next-other}
 use Rattle.slots.specs.Words.{filterSlot, slotWords}
 use Rattle.lists.specs.Filters.{maxFilters}

@@ -11,14 +11,14 @@ use Rattle.sets.specs.Sets.{tally}
 use Rattle.words.specs.laws.Lending.{later}
 use Rattle.tables.specs.Tables.{recordWords}
 use Rattle.slots.specs.inner.Slots.{startWords}
-use Rattle.machine.specs.Box.{slotsIn}
+use Rattle.machine.specs.inner.Slots.{slotsIn}
 use Rattle.machine.specs.laws.Carried.{whole, list-placed}
 use Rattle.machine.specs.inner.Remaining.{GoodWords, testsLeft, words-start, left-start}
 use Rattle.automaton.specs.Machines.{Machine}
 use Rattle.automaton.specs.inner.Placing.{Memory, Placement, slotless, stored, placeState, placeAll}
 use Rattle.builder.specs.inner.Memory.{slotAt, statesIn, recordsAt, memoryOf, outOf}
 use Rattle.builder.specs.inner.Promises.{Stored, StatePlaced, Grown, AfterKept}
-use Rattle.builder.specs.Building.{Startable, Started}
+use Rattle.builder.specs.inner.Started.{Startable, Started}
 use Rattle.builder.specs.declared.Extent.{Extent}
 use Rattle.builder.specs.declared.Extent.the-variants as R
 

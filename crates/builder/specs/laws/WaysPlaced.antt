@@ -11,11 +11,12 @@ use Rattle.residue.specs.declared.Outcome.{Outcome}
 use Rattle.residue.specs.declared.Outcome.the-variants as O
 use Rattle.sets.specs.laws.Members.{length-tally, getD-tally}
 use Rattle.words.specs.laws.Lending.{later, earlier}
-use Rattle.tables.specs.Tables.{recordWords, withNext}
+use Rattle.tables.specs.Tables.{recordWords}
+use Rattle.tables.specs.inner.Records.{withNext}
 use Rattle.tables.specs.laws.Changes.{next-behind}
 use Rattle.slots.specs.Words.{slotWords}
 use Rattle.slots.specs.inner.Slots.{stepWords, asksIn}
-use Rattle.machine.specs.Box.{slotsIn}
+use Rattle.machine.specs.inner.Slots.{slotsIn}
 use Rattle.machine.specs.inner.Remaining.{GoodWords, testsLeft, words-step, words-fall}
 use Rattle.automaton.specs.Machines.{meets, placeOf}
 use Rattle.automaton.specs.inner.Placing.{Memory, Placement, slotless, slotted, stored, linked, andThen, placeWay, placeState}

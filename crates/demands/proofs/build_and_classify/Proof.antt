@@ -4,7 +4,7 @@ use borrow.Author.Needs.{needs}
 use native.Mathlib.Omega.{arith}
 use mathlib.Core.Path.{sym, ap, _∙_}
 use Rattle.builder.specs.Outcome.{shown}
-use Rattle.demands.specs.Whole.{whole-built, whole-refused}
+use Rattle.demands.specs.laws.Whole.{whole-built, whole-refused}
 use Rattle.demands.proofs.build_and_classify.Statement.{statement}
 use Rattle.demands.proofs.build_and_classify.Tie as tie
 

@@ -13,18 +13,19 @@ use Rattle.lists.specs.inner.Well.{wellFilters}
 use Rattle.lists.specs.Filters.{Item, Filter}
 use Rattle.states.specs.States.{State, nothing, ask, questionOf, start, stepBy, sureSet, outSet}
 use Rattle.states.specs.Runs.{asks}
-use Rattle.states.specs.Choices.{Picked}
+use Rattle.states.specs.inner.Choices.{Picked}
 use Rattle.states.specs.laws.Keeps.{by-question, step-ask}
 use Rattle.automaton.specs.Machines.{meets, placeOf, nextsOf}
 use Rattle.automaton.specs.laws.Lists.{getD-mem}
 use Rattle.automaton.specs.laws.Places.{mem-meets, place-below}
-use Rattle.tables.specs.Tables.{recordWords, maxSlots, slotsOf, wordOf, setAt, questionAt, wayAt, sureAt, outAt, sureSetAt, outSetAt}
+use Rattle.tables.specs.Tables.{recordWords, maxSlots, slotsOf, wordOf, sureAt, outAt}
+use Rattle.tables.specs.inner.Records.{setAt, questionAt, wayAt, sureSetAt, outSetAt}
 use Rattle.tables.specs.laws.Least.{slots-least}
 use Rattle.slots.specs.Words.{questionWords}
 use Rattle.machine.specs.Box.{boxOf, statesOf, recordsIn}
 use Rattle.machine.specs.laws.Front.{front-spells, front-way}
 use Rattle.machine.specs.laws.Lawful.{Good, box-lawful, states-good, states-closed, states-place, states-some, records-size, start-first, start-met}
-use Rattle.labels.specs.Labels.{FinalRecord, AskingRecord, LabelledBy}
+use Rattle.labels.specs.inner.Labelled.{FinalRecord, AskingRecord, LabelledBy}
 
 -- As many slots as there are records.
 slots-fit : (t : List ℕ) (m : ℕ) → m ≤ maxSlots → recordWords * m ≤ length t → m ≤ slotsOf t

@@ -7,7 +7,7 @@ use lib.Dec.{leb, eqb}
 use lib.ListN.{length, getD, set, replicate}
 use lib.Pow.{le-ones}
 use borrow.Author.Tests.{le-leb, leb-true}
-use Rattle.residue.specs.Relations.{inWidth}
+use Rattle.residue.specs.inner.Readings.{inWidth}
 use Rattle.residue.specs.declared.Reading.{Reading}
 use Rattle.residue.specs.declared.Reading.the-variants.{Absent, Value}
 use Rattle.fields.specs.Widths.{fieldCount, width, full}

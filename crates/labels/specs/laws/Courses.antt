@@ -21,14 +21,16 @@ use Rattle.lists.specs.Filters.{Item, Filter, itemOf}
 use Rattle.lists.specs.laws.Items.{kind-some, kind-known, item-round}
 use Rattle.states.specs.States.{State, nothing, questionOf, sureSet, outSet}
 use Rattle.states.specs.Runs.{wayOf}
-use Rattle.states.specs.Choices.{Leads, leads-none, leads-more, Chosen, OfFrame}
+use Rattle.states.specs.inner.Choices.{Leads, leads-none, leads-more, Chosen, OfFrame}
 use Rattle.states.specs.laws.Well.{item-field}
-use Rattle.states.specs.Choices.{path-of, path-free}
+use Rattle.states.specs.laws.Choices.{path-of, path-free}
 use Rattle.states.specs.laws.Well.{wellState, well-left, well-step, well-leads}
 use Rattle.states.specs.laws.Keeps.{by-question, left-asks}
-use Rattle.tables.specs.Tables.{wordOf, questionAt, nextAt, wayAt, kindAt, fieldAt, holdsAt, failsAt}
+use Rattle.tables.specs.Tables.{wordOf, nextAt, kindAt, fieldAt, holdsAt, failsAt}
+use Rattle.tables.specs.inner.Records.{questionAt, wayAt}
 use Rattle.matcher.specs.Walk.{damaged, nextBy, nextOf, walkFrom}
-use Rattle.labels.specs.Labels.{FinalRecord, AskingRecord, LabelledBy, endedBy, shownAt}
+use Rattle.labels.specs.Labels.{endedBy, shownAt}
+use Rattle.labels.specs.inner.Labelled.{FinalRecord, AskingRecord, LabelledBy}
 use Rattle.labels.specs.laws.Turns.{walk-ends, walk-stops, walk-goes}
 
 -- ---- the words of a question

@@ -21,7 +21,8 @@ use Rattle.lists.specs.Filters.{Item, Filter, testsIn}
 use Rattle.lists.specs.Ranks.{fires, matches}
 use Rattle.states.specs.States.{State, start, Question, nothing, ask, questionOf, standing, isOut, sure, isOpen, sureSet, outSet}
 use Rattle.states.specs.Runs.{run, askedIn}
-use Rattle.states.specs.Choices.{Leads, Chosen, Picked, OfFrame, Free, path-of, path-free}
+use Rattle.states.specs.laws.Choices.{path-of, path-free}
+use Rattle.states.specs.inner.Choices.{Leads, Chosen, Picked, OfFrame, Free}
 use Rattle.states.specs.laws.Keeps.{picks-run}
 use Rattle.states.specs.laws.Well.{wellState, well-start}
 use Rattle.states.specs.laws.Truth.{InWidths}
@@ -29,7 +30,8 @@ use Rattle.states.specs.laws.Stays.{leads-sure, leads-out}
 use Rattle.states.specs.laws.Paths.{member-sure, member-out, PathTruth, path-truth}
 use Rattle.tables.specs.Tables.{slotsOf}
 use Rattle.matcher.specs.Walk.{Shown, walkFrom, walk}
-use Rattle.labels.specs.Labels.{LabelledBy, endedBy, shownAt, Legal}
+use Rattle.labels.specs.Labels.{endedBy, shownAt, Legal}
+use Rattle.labels.specs.inner.Labelled.{LabelledBy}
 use Rattle.labels.specs.laws.Courses.{Course, walk-course, end-well, walk-shows}
 
 -- ---- what is shown of a state

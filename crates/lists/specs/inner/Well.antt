@@ -6,7 +6,7 @@ use mathlib.Core.Bool.{Bool, true, _&&_}
 use mathlib.Core.List.{List, [], _∷_}
 use lib.Dec.{leb, ltb}
 use lib.ListN.{length}
-use Rattle.residue.specs.Tests.{wellFormed}
+use Rattle.residue.specs.inner.Well.{wellFormed}
 use Rattle.fields.specs.Widths.{fieldCount, full}
 use Rattle.lists.specs.Filters.{maxTests, Item, Filter}
 

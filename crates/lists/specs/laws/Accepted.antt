@@ -12,7 +12,7 @@ use lib.Dec.{leb, eqb}
 use lib.ListN.{length, drop}
 use borrow.Author.Tests.{leb-true, not-false, lt-ltb, le-leb}
 use Rattle.residue.specs.laws.Choice.{first, second}
-use Rattle.residue.specs.Tests.{wellMasked, wellFormed}
+use Rattle.residue.specs.inner.Well.{wellMasked, wellFormed}
 use Rattle.fields.specs.Widths.{fieldCount, full}
 use Rattle.lists.specs.Filters.{maxFilters, maxTests, headWords, testWords, kindEqual, kindDiffers, kindAtMost, kindAtLeast, countWord, kindWord, fieldWord, maskWord, valueWord, filterWords, Filter, testOf, itemOf, itemsOf, filterOf, filtersFrom, filtersOf, testsIn}
 use Rattle.lists.specs.Refusals.{wordsFault, testsFault, listedFrom, listed}

@@ -13,9 +13,10 @@ use Rattle.lists.specs.Refusals.{listed}
 use Rattle.lists.specs.laws.Accepted.{accepted-count, accepted-well}
 use Rattle.lists.specs.declared.Listed.the-variants.{Accepted}
 use Rattle.lists.specs.Ranks.{rankSets}
-use Rattle.states.specs.States.{State, start, remaining}
+use Rattle.states.specs.States.{State, start}
+use Rattle.states.specs.inner.Remaining.{remaining}
 use Rattle.states.specs.laws.Measure.{start-remaining}
-use Rattle.slots.specs.Words.{written, readState}
+use Rattle.slots.specs.inner.Words.{written, readState}
 use Rattle.slots.specs.inner.Slots.{asksIn, stepWords, startWords}
 use Rattle.slots.specs.laws.Written.{start-accepted}
 use Rattle.slots.specs.laws.Reading.{read-written}

@@ -16,14 +16,15 @@ use Rattle.lists.specs.laws.Accepted.{accepted-count, accepted-well}
 use Rattle.lists.specs.declared.Listed.the-variants.{Accepted}
 use Rattle.lists.specs.Ranks.{rankSets}
 use Rattle.states.specs.States.{start}
-use Rattle.slots.specs.Words.{written}
+use Rattle.slots.specs.inner.Words.{written}
 use Rattle.slots.specs.inner.Slots.{startWords}
 use Rattle.slots.specs.laws.Written.{same-written, asks-written, next-written, question-written, sure-written, out-written, start-accepted}
 use Rattle.automaton.specs.Machines.{recordOf}
 use Rattle.automaton.specs.inner.Placing.{Placement, slotless, slotted, placeAll}
 use Rattle.automaton.specs.laws.MetPlaced.{holding}
 use Rattle.automaton.specs.laws.Carrying.{Carried, SameCarried, placed-carried}
-use Rattle.machine.specs.Box.{boxOf, statesOf, slotsIn}
+use Rattle.machine.specs.Box.{boxOf, statesOf}
+use Rattle.machine.specs.inner.Slots.{slotsIn}
 use Rattle.machine.specs.laws.Lawful.{Good, good-start, box-lawful, enough}
 
 -- What placing a list's states comes to in so many slots: their words and records, or a state without one.

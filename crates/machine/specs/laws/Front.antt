@@ -11,7 +11,8 @@ use Rattle.lists.specs.inner.Well.{wellFilters}
 use Rattle.lists.specs.Filters.{Filter}
 use Rattle.states.specs.States.{State, questionOf, step, sureSet, outSet}
 use Rattle.states.specs.Runs.{asks}
-use Rattle.tables.specs.Tables.{recordWith, recordAt, wayAt}
+use Rattle.tables.specs.Tables.{recordWith}
+use Rattle.tables.specs.inner.Records.{recordAt, wayAt}
 use Rattle.tables.specs.laws.Layout.{Spells, record-spells}
 use Rattle.automaton.specs.Machines.{placeOf, nextsOf, recordOf}
 use Rattle.automaton.specs.laws.Records.{record-at}

@@ -10,15 +10,18 @@ use Rattle.residue.specs.declared.Outcome.{Outcome}
 use Rattle.lists.specs.Words.{itemWords}
 use Rattle.lists.specs.inner.Well.{wellFilters}
 use Rattle.lists.specs.Filters.{Filter}
-use Rattle.states.specs.States.{State, Question, nothing, ask, questionOf, start, step, remaining}
+use Rattle.states.specs.States.{State, Question, nothing, ask, questionOf, start, step}
+use Rattle.states.specs.inner.Remaining.{remaining}
 use Rattle.states.specs.laws.Well.{wellState, well-start, well-step}
 use Rattle.states.specs.laws.Standings.{length-start, length-step}
 use Rattle.states.specs.laws.Measure.{start-remaining, next-falls}
 use Rattle.states.specs.laws.Keeps.{step-keeps}
-use Rattle.states.specs.Same.{same-state-eq, same-state-refl}
-use Rattle.tables.specs.Tables.{askWords, recordWords}
+use Rattle.states.specs.laws.Same.{same-state-eq, same-state-refl}
+use Rattle.tables.specs.Tables.{recordWords}
+use Rattle.tables.specs.inner.Records.{askWords}
 use Rattle.automaton.specs.Machines.{meets, placeOf}
-use Rattle.automaton.specs.Lawful.{Lawful, Reached, Distinct}
+use Rattle.automaton.specs.Lawful.{Reached, Distinct}
+use Rattle.automaton.specs.inner.Lawful.{Lawful}
 use Rattle.automaton.specs.laws.Reaching.{all-each-good, all-closed, all-start, all-reached, reached-all, all-distinct, all-place-state, all-place-start}
 use Rattle.automaton.specs.laws.Lists.{Each}
 use Rattle.automaton.specs.laws.Places.{place-below}

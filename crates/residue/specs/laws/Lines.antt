@@ -7,7 +7,7 @@ use native.Mathlib.Omega.{arith}
 use lib.Dec.{eqb, leb, ltb}
 use lib.Bits.{bitAnd, and-comm, and-le-l, and-zero-r}
 use borrow.Author.Tests.{eqb-true, eqb-false, ltb-true, leb-true, ne-eqb, eq-eqb, not-true}
-use Rattle.residue.specs.Tests.{wellMasked}
+use Rattle.residue.specs.inner.Well.{wellMasked}
 use Rattle.residue.specs.Residues.{outside, covers}
 use Rattle.residue.specs.laws.Choice.{first, second, same-eqb}
 use Rattle.residue.specs.laws.Bits.{and-assoc, and-swap, and-outside, and-add-outside, le-and-add}

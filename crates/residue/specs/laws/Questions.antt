@@ -6,10 +6,12 @@ use native.Mathlib.Omega.{arith}
 use lib.Dec.{eqb, leb}
 use lib.Bits.{bitAnd, and-self}
 use borrow.Author.Tests.{eqb-false, leb-true, leb-false, lt-ltb, le-leb, lt-leb, ne-eqb, eq-eqb, not-false}
-use Rattle.residue.specs.Tests.{holds, wellMasked, wellFormed}
-use Rattle.residue.specs.Facts.{isSo, wellKnown, outcomeOf, failsFact, factOf}
+use Rattle.residue.specs.Tests.{holds}
+use Rattle.residue.specs.inner.Well.{wellMasked, wellFormed, wellKnown}
+use Rattle.residue.specs.Facts.{outcomeOf, failsFact, factOf}
+use Rattle.residue.specs.inner.Readings.{isSo, inWidth}
 use Rattle.residue.specs.Residues.{outside, settled, reducedEqual, reducedDiffers, fromMasked, fromEqual, covers, fromDiffers, fromAtMost, fromAtLeast, residueBy}
-use Rattle.residue.specs.Relations.{inWidth, isSettled}
+use Rattle.residue.specs.inner.Relations.{isSettled}
 use Rattle.residue.specs.laws.Choice.{by-cond, both}
 use Rattle.residue.specs.laws.Bits.{outside-self}
 use Rattle.residue.specs.laws.Lines.{masked}

@@ -7,10 +7,10 @@ use native.Mathlib.Omega.{arith}
 use lib.Dec.{eqb, leb, ltb}
 use lib.Bits.{bitAnd, and-le-l}
 use borrow.Author.Tests.{eqb-true, eqb-false, ltb-true, leb-true, le-leb, lt-leb, not-true}
-use Rattle.residue.specs.Tests.{holds, holdsOf, wellFormed}
-use Rattle.residue.specs.Facts.{isSo, wellKnown}
-use Rattle.residue.specs.Residues.{outside, settled, reducedEqual, reducedDiffers, fromMasked, fromEqual, covers, fromDiffers, fromAtMost, fromAtLeast, residueBy, remains}
-use Rattle.residue.specs.Relations.{inWidth}
+use Rattle.residue.specs.Tests.{holds, holdsOf}
+use Rattle.residue.specs.inner.Well.{wellFormed, wellKnown}
+use Rattle.residue.specs.inner.Readings.{isSo, remains, inWidth}
+use Rattle.residue.specs.Residues.{outside, settled, reducedEqual, reducedDiffers, fromMasked, fromEqual, covers, fromDiffers, fromAtMost, fromAtLeast, residueBy}
 use Rattle.residue.specs.laws.Choice.{by-cond}
 use Rattle.residue.specs.laws.Bits.{and-full, le-and-add}
 use Rattle.residue.specs.laws.Lines.{masked, masked-clash, masked-left, none-left, differs-clash, at-most-clash, at-least-clash}

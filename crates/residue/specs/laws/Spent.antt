@@ -6,10 +6,12 @@ use native.Mathlib.Omega.{arith}
 use lib.Dec.{eqb, leb, ltb}
 use lib.Bits.{bitAnd, and-comm}
 use borrow.Author.Tests.{eqb-true, eqb-false, ltb-false, leb-false, ne-eqb, eq-eqb, not-true}
-use Rattle.residue.specs.Tests.{holds, wellFormed}
+use Rattle.residue.specs.Tests.{holds}
+use Rattle.residue.specs.inner.Well.{wellFormed}
 use Rattle.residue.specs.Facts.{failsFact, factOf}
 use Rattle.residue.specs.Residues.{outside, reducedEqual, reducedDiffers, fromMasked, fromEqual, covers, fromDiffers, fromAtMost, fromAtLeast, residueBy}
-use Rattle.residue.specs.Relations.{everyLeft, maskedOf, atMostOf, atLeastOf, sameTest, fewer, narrows, repeats, spent}
+use Rattle.residue.specs.Relations.{atMostOf, atLeastOf, sameTest}
+use Rattle.residue.specs.inner.Relations.{everyLeft, maskedOf, fewer, narrows, repeats, spent}
 use Rattle.residue.specs.laws.Choice.{by-cond, never, both, first, second}
 use Rattle.residue.specs.laws.Bits.{and-assoc, reduced-outside}
 use Rattle.residue.specs.laws.Lines.{masked}

@@ -2,7 +2,8 @@
 -- Assumes nothing.
 use Rattle.slots.proofs.Starting.{fill-turn, fill-end}
 use Rattle.slots.proofs.Parts.{part-long, room, lent-long, done}
-use Rattle.slots.specs.Words.{filterSlot, written}
+use Rattle.slots.specs.Words.{filterSlot}
+use Rattle.slots.specs.inner.Words.{written}
 use Rattle.states.specs.States.{allLeft}
 use Rattle.lists.specs.Filters.{filtersOf}
 use Rattle.lists.specs.laws.Walking.{Here, At, at-start, at-here, at-next}

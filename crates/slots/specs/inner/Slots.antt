@@ -23,7 +23,8 @@ use Rattle.fields.specs.Widths.{full}
 use Rattle.sets.specs.Sets.{setOf, tally}
 use Rattle.lists.specs.Filters.{Item, kindWord, fieldWord, maskWord, valueWord, itemOf, filtersOf}
 use Rattle.states.specs.States.{cutStanding, allLeft}
-use Rattle.slots.specs.Words.{filterSlot, outMark, outWords, writtenFilter, written, readFilter}
+use Rattle.slots.specs.Words.{filterSlot}
+use Rattle.slots.specs.inner.Words.{outMark, outWords, writtenFilter, written, readFilter}
 
 unfoldable pub headOf : List ℕ → ℕ → ℕ
 headOf w i = getD w (filterSlot * i) 0

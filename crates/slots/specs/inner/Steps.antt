@@ -25,7 +25,8 @@ use Rattle.lists.specs.declared.Listed.the-variants.{Accepted}
 use Rattle.states.specs.States.{Standing, out, left, cut}
 use Rattle.sets.specs.Sets.{setOf, tally}
 use Rattle.slots.specs.inner.Slots.{headOf}
-use Rattle.slots.specs.Words.{filterSlot, itemsWords, outWords, writtenFilter, readItems}
+use Rattle.slots.specs.Words.{filterSlot}
+use Rattle.slots.specs.inner.Words.{itemsWords, outWords, writtenFilter, readItems}
 
 abbrev pub over : ℕ → List ℕ → List ℕ → List ℕ
 over at ws d = take at d ++ ws ++ drop (at + length ws) d

@@ -14,7 +14,8 @@ use Rattle.residue.specs.declared.Outcome.{Outcome}
 use Rattle.lists.specs.Filters.{Item, Filter, maxTests}
 use Rattle.lists.specs.inner.Well.{wellFilter, wellFilters}
 use Rattle.lists.specs.laws.Accepted.{well-few}
-use Rattle.states.specs.States.{Standing, out, State, cutStanding, beaten, closedFrom, closed, allLeft, start, stepBy, remainingIn}
+use Rattle.states.specs.States.{Standing, out, State, cutStanding, beaten, closedFrom, closed, allLeft, start, stepBy}
+use Rattle.states.specs.inner.Remaining.{remainingIn}
 use Rattle.states.specs.laws.Measure.{cutStanding-le, closed-le}
 
 unfoldable pub fitsStanding : Standing → Bool

@@ -14,8 +14,10 @@ use Rattle.residue.specs.declared.Test.the-variants.{Equal, Differs, AtMost, At
 use Rattle.lists.specs.Filters.{Item, maxTests, testWords, itemOf}
 use Rattle.lists.specs.Words.{kindOf, itemWords}
 use Rattle.lists.specs.laws.Items.{kind-some, item-round}
-use Rattle.states.specs.States.{Standing, out, left, State, isHeld, isOut, remainingIn}
-use Rattle.slots.specs.Words.{filterSlot, outMark, itemsWords, outWords, writtenFilter, written, readItems, readFilter, readState}
+use Rattle.states.specs.States.{Standing, out, left, State, isHeld, isOut}
+use Rattle.states.specs.inner.Remaining.{remainingIn}
+use Rattle.slots.specs.Words.{filterSlot}
+use Rattle.slots.specs.inner.Words.{outMark, itemsWords, outWords, writtenFilter, written, readItems, readFilter, readState}
 use Rattle.slots.specs.laws.Fitting.{fitsStanding, fitsSlot, fits-le}
 
 -- ---- lengths

@@ -33,8 +33,10 @@ use Rattle.lists.specs.laws.Items.{kind-some, item-round}
 use Rattle.lists.specs.laws.Ranking.{getD-rankSets, rankSet-in, rankSet-clear}
 use Rattle.states.specs.States.{Standing, out, left, State, standing, isHeld, isOut, cutStanding, beaten, closedFrom, closed, allLeft, start, Question, nothing, ask, questionOf, stepBy, stepAt, step, sure, sureSet, outSet}
 use Rattle.states.specs.Runs.{asks}
-use Rattle.states.specs.Same.{sameState, same-state-eq, same-state-refl}
-use Rattle.slots.specs.Words.{questionWords, filterSlot, outMark, itemsWords, outWords, writtenFilter, written, readFilter}
+use Rattle.states.specs.Same.{sameState}
+use Rattle.states.specs.laws.Same.{same-state-eq, same-state-refl}
+use Rattle.slots.specs.Words.{questionWords, filterSlot}
+use Rattle.slots.specs.inner.Words.{outMark, itemsWords, outWords, writtenFilter, written, readFilter}
 use Rattle.slots.specs.inner.Slots.{headOf, heldSet, outSetIn, sureSetIn, closedIn, closedWords, hasTest, fourWords, questionIn, asksIn, cutWords, stepQuestion, stepWords, startWords, sameWords}
 use Rattle.slots.specs.laws.Fitting.{fitsStanding, fitsSlot, fits-cut, fits-all}
 use Rattle.slots.specs.laws.Reading.{length-filter, take-filter, drop-filter, held-word, out-word, kind-mark, read-filter, written-injective}

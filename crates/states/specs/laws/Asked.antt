@@ -8,7 +8,7 @@ use mathlib.Core.List.{List}
 use lib.Dec.{eqb}
 use borrow.Author.Tests.{eqb-true, eq-eqb}
 use Rattle.residue.specs.laws.Choice.{by-cond, both, first, second}
-use Rattle.residue.specs.Relations.{spent, everyLeft}
+use Rattle.residue.specs.inner.Relations.{spent, everyLeft}
 use Rattle.residue.specs.Residues.{residueBy}
 use Rattle.residue.specs.laws.Narrowing.{same-test-refl}
 use Rattle.residue.specs.laws.Spent.{question-spent, spent-stays, spent-other}
@@ -21,7 +21,8 @@ use Rattle.lists.specs.Filters.{Item, Filter}
 use Rattle.states.specs.States.{State, ask, questionOf, stepBy}
 use Rattle.states.specs.Runs.{follow}
 use Rattle.states.specs.laws.Standings.{factBy}
-use Rattle.states.specs.Choices.{leftIn, Leads, Free, leads-keeps}
+use Rattle.states.specs.laws.Choices.{leads-keeps}
+use Rattle.states.specs.inner.Choices.{leftIn, Leads, Free}
 use Rattle.states.specs.laws.Keeps.{question-left, follow-leads}
 use Rattle.states.specs.laws.Every.{everyState, leaves, every-left, every-step}
 use Rattle.states.specs.laws.Well.{wellState, item-test, item-on, item-leaves, well-left}

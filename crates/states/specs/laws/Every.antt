@@ -7,7 +7,7 @@ use mathlib.Core.Bool.{Bool, true, false, cond, _&&_, false≢true}
 use mathlib.Core.List.{List, [], _∷_, map}
 use lib.Dec.{eqb}
 use Rattle.residue.specs.laws.Choice.{by-cond, both, first, second, either}
-use Rattle.residue.specs.Relations.{everyLeft}
+use Rattle.residue.specs.inner.Relations.{everyLeft}
 use Rattle.residue.specs.Residues.{residueBy}
 use Rattle.residue.specs.declared.Test.{Test}
 use Rattle.residue.specs.declared.Fact.{Fact}
@@ -18,8 +18,9 @@ use Rattle.fields.specs.Widths.{full}
 use Rattle.lists.specs.Filters.{Item, Filter}
 use Rattle.states.specs.States.{Standing, out, left, State, standing, keep, join, cut, cutStanding, beaten, closedFrom, closed, stepBy}
 use Rattle.states.specs.laws.Standings.{factBy}
-use Rattle.states.specs.Same.{sameItem, same-item-eq}
-use Rattle.states.specs.Choices.{among, leftIn}
+use Rattle.states.specs.Same.{sameItem}
+use Rattle.states.specs.laws.Same.{same-item-eq}
+use Rattle.states.specs.inner.Choices.{among, leftIn}
 
 unfoldable pub everyItem : (Item → Bool) → List Item → Bool
 everyItem p [] = true

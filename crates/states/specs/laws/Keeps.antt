@@ -16,8 +16,9 @@ use Rattle.residue.specs.declared.Outcome.{Outcome}
 use Rattle.lists.specs.Filters.{Item, Filter}
 use Rattle.states.specs.States.{out, left, State, Question, nothing, ask, questionOf, stepBy, stepAt, step}
 use Rattle.states.specs.Runs.{wayOf, advanceAt, advance, run, askedAt, askedIn, follow, asks, asksAll}
-use Rattle.states.specs.Same.{same-item-refl}
-use Rattle.states.specs.Choices.{among, leftIn, Leads, leads-none, leads-more, Chosen, Picked, OfFrame, Free, leads-keeps}
+use Rattle.states.specs.laws.Same.{same-item-refl}
+use Rattle.states.specs.laws.Choices.{leads-keeps}
+use Rattle.states.specs.inner.Choices.{among, leftIn, Leads, leads-none, leads-more, Chosen, Picked, OfFrame, Free}
 
 pub none-asked : (q : Item) → nothing ≡ ask q → ⊥
 none-asked q z = let y : true ≡ false = cc in false≢true (sym y)

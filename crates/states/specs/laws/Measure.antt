@@ -10,7 +10,7 @@ use lib.ListN.{length}
 use borrow.Author.Tests.{eq-eqb}
 use Rattle.residue.specs.Residues.{residueBy}
 use Rattle.residue.specs.laws.Choice.{by-cond, either}
-use Rattle.residue.specs.Relations.{isSettled}
+use Rattle.residue.specs.inner.Relations.{isSettled}
 use Rattle.residue.specs.laws.Questions.{residue-own}
 use Rattle.residue.specs.declared.Fact.{Fact}
 use Rattle.residue.specs.declared.Outcome.{Outcome}
@@ -19,11 +19,13 @@ use Rattle.residue.specs.declared.Residue.the-variants.{True, False, Left}
 use Rattle.fields.specs.Widths.{full}
 use Rattle.lists.specs.inner.Well.{wellItem, wellFilters}
 use Rattle.lists.specs.Filters.{Item, Filter, testsIn}
-use Rattle.states.specs.States.{Standing, out, left, State, keep, join, cut, cutStanding, beaten, closedFrom, closed, allLeft, start, Question, nothing, ask, questionOf, stepBy, step, remainingIn, remaining}
+use Rattle.states.specs.States.{Standing, out, left, State, keep, join, cut, cutStanding, beaten, closedFrom, closed, allLeft, start, Question, nothing, ask, questionOf, stepBy, step}
+use Rattle.states.specs.inner.Remaining.{remainingIn, remaining}
 use Rattle.states.specs.Runs.{asks, asksAll}
 use Rattle.states.specs.laws.Standings.{factBy}
-use Rattle.states.specs.Same.{sameItem, same-item-eq}
-use Rattle.states.specs.Choices.{among, leftIn, Leads, leads-none, leads-more, Free}
+use Rattle.states.specs.Same.{sameItem}
+use Rattle.states.specs.laws.Same.{same-item-eq}
+use Rattle.states.specs.inner.Choices.{among, leftIn, Leads, leads-none, leads-more, Free}
 use Rattle.states.specs.laws.Well.{wellState, item-test, well-start, well-left, well-step}
 use Rattle.states.specs.laws.Keeps.{none-asked, by-question, question-left, step-ask, follow-leads}
 

@@ -9,7 +9,8 @@ use Rattle.residue.specs.declared.Outcome.{Outcome}
 use Rattle.lists.specs.Filters.{Item, Filter}
 use Rattle.states.specs.States.{Standing, out, left, State, standing, isHeld, isOut, cut, cutStanding, beaten, closed, allLeft, start, stepBy, sure}
 use Rattle.states.specs.laws.Standings.{factBy, divided, step-closes, standing-divided, standing-closed, beaten-where, where-beaten}
-use Rattle.states.specs.Choices.{Leads, Free, leads-keeps}
+use Rattle.states.specs.laws.Choices.{leads-keeps}
+use Rattle.states.specs.inner.Choices.{Leads, Free}
 use Rattle.states.specs.laws.Sure.{not-held-out, Shut, sure-held, sure-above, held-sure}
 
 -- ---- closing

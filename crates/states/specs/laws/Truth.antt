@@ -12,11 +12,11 @@ use native.Mathlib.Omega.{arith}
 use lib.Dec.{ltb, eqb}
 use lib.ListN.{length, length-map}
 use borrow.Author.Tests.{eqb-true, ltb-true, ltb-false}
-use Rattle.residue.specs.Tests.{holdsOf, wellFormed}
-use Rattle.residue.specs.Facts.{isSo, wellKnown}
-use Rattle.residue.specs.Residues.{residueBy, remains}
+use Rattle.residue.specs.Tests.{holdsOf}
+use Rattle.residue.specs.inner.Well.{wellFormed, wellKnown}
+use Rattle.residue.specs.inner.Readings.{isSo, remains, inWidth}
+use Rattle.residue.specs.Residues.{residueBy}
 use Rattle.residue.specs.laws.Choice.{by-cond, first, second}
-use Rattle.residue.specs.Relations.{inWidth}
 use Rattle.residue.specs.laws.Sound.{residue-sound}
 use Rattle.residue.specs.laws.Questions.{outcome-fact-so}
 use Rattle.residue.specs.declared.Test.{Test}
@@ -33,7 +33,8 @@ use Rattle.states.specs.Runs.{wayOf}
 use Rattle.states.specs.laws.Standings.{factBy, divided, step-closes, standing-divided, standing-closed, standing-all, standing-beyond, beaten-where}
 use Rattle.states.specs.laws.Well.{wellState, item-on, fact-known, well-left, well-step}
 use Rattle.states.specs.laws.Every.{everyItem, everyStanding, every-standing}
-use Rattle.states.specs.Choices.{Path, path-keeps}
+use Rattle.states.specs.laws.Choices.{path-keeps}
+use Rattle.states.specs.inner.Choices.{Path}
 
 unfoldable pub holdsIn : (ℕ → Reading) → Standing → Bool
 holdsIn r out = false

@@ -6,8 +6,7 @@ use mathlib.Core.Bool.{Bool, true, _&&_}
 use mathlib.Core.List.{List, [], _∷_, map}
 use lib.Dec.{ltb, eqb}
 use borrow.Author.Tests.{eqb-true}
-use Rattle.residue.specs.Tests.{wellFormed}
-use Rattle.residue.specs.Facts.{wellKnown}
+use Rattle.residue.specs.inner.Well.{wellFormed, wellKnown}
 use Rattle.residue.specs.Residues.{residueBy}
 use Rattle.residue.specs.laws.Choice.{both, first, second}
 use Rattle.residue.specs.laws.Questions.{fact-well}
@@ -15,7 +14,7 @@ use Rattle.residue.specs.laws.Narrowing.{residue-narrows, narrows-well, every-m
 use Rattle.residue.specs.declared.Test.{Test}
 use Rattle.residue.specs.declared.Fact.{Fact}
 use Rattle.residue.specs.declared.Outcome.{Outcome}
-use Rattle.residue.specs.Relations.{narrows}
+use Rattle.residue.specs.inner.Relations.{narrows}
 use Rattle.fields.specs.Widths.{full, fieldCount}
 use Rattle.lists.specs.inner.Well.{wellItem, wellItems, wellFilter, wellFilters}
 use Rattle.lists.specs.Filters.{Item, Filter}
@@ -23,7 +22,8 @@ use Rattle.lists.specs.laws.Accepted.{well-items}
 use Rattle.states.specs.States.{State, allLeft, start, stepBy}
 use Rattle.states.specs.Runs.{follow}
 use Rattle.states.specs.laws.Standings.{factBy}
-use Rattle.states.specs.Choices.{leftIn, Leads, Free, leads-keeps}
+use Rattle.states.specs.laws.Choices.{leads-keeps}
+use Rattle.states.specs.inner.Choices.{leftIn, Leads, Free}
 use Rattle.states.specs.laws.Keeps.{follow-leads}
 use Rattle.states.specs.laws.Every.{everyItem, everyStanding, everyState, leaves, every-left, every-closed, every-step}
 

@@ -6,7 +6,8 @@ use native.Mathlib.Omega.{arith}
 use lib.ListN.{set}
 use borrow.Author.Needs.{needs}
 use denote.Ref.{now}
-use Rattle.tables.specs.Tables.{recordWords, withNext}
+use Rattle.tables.specs.Tables.{recordWords}
+use Rattle.tables.specs.inner.Records.{withNext}
 use Rattle.tables.specs.laws.Layout.{next-within}
 use Rattle.tables.proofs.put_next.Statement.{statement}
 use Rattle.tables.proofs.put_next.Tie as tie

@@ -1,7 +1,7 @@
 -- `tables::put_set` meets its contract: a set is one word.
 -- Assumes nothing.
 use borrow.Author.Needs.{needs}
-use Rattle.tables.specs.Tables.{putSet}
+use Rattle.tables.specs.inner.Records.{putSet}
 use Rattle.tables.proofs.put_set.Statement.{statement}
 use Rattle.tables.proofs.put_set.Tie as tie
 

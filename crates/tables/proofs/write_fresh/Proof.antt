@@ -8,7 +8,8 @@ use lib.ListN.{length-set}
 use lib.Seq.{sets-eq}
 use borrow.Author.Needs.{needs}
 use denote.Ref.{now}
-use Rattle.tables.specs.Tables.{outAt, putSet, asWords, recordWith, freshRecord}
+use Rattle.tables.specs.Tables.{outAt, asWords, recordWith}
+use Rattle.tables.specs.inner.Records.{putSet, freshRecord}
 use Rattle.tables.proofs.write_fresh.Statement.{statement}
 use Rattle.tables.proofs.write_fresh.Tie as tie
 

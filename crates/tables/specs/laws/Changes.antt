@@ -13,7 +13,8 @@ use lib.Seq.{drop-set-lt, take-set-le, drop-set-add, take-set-lt}
 use borrow.Author.Tests.{ltb-true, ltb-false}
 use Rattle.residue.specs.declared.Outcome.{Outcome}
 use Rattle.words.specs.laws.Lending.{part-kept}
-use Rattle.tables.specs.Tables.{recordWords, nextAt, recordAt, withNext}
+use Rattle.tables.specs.Tables.{recordWords, nextAt}
+use Rattle.tables.specs.inner.Records.{recordAt, withNext}
 use Rattle.tables.specs.laws.Layout.{next-within}
 
 pub record-kept : (used i : ℕ) (t t' : List ℕ) → i < used → take (recordWords * used) t' ≡ take (recordWords * used) t → recordAt t' i ≡ recordAt t i

@@ -5,7 +5,7 @@ use Prim.Native.Nat.{_-_, _<_}
 use mathlib.Core.Path.{sym, _∙_}
 use native.Mathlib.Omega.{arith}
 use lib.ListN.{length}
-use Rattle.text.specs.Text.{maxItems}
+use Rattle.text.specs.inner.Items.{maxItems}
 use Rattle.text.proofs.Turns.{Reading, begun, skipped, spelt, word-room, stored, refused, ended-apart, last-room, ended-inside}
 use borrow.Author.Needs.{needs}
 use Rattle.text.proofs.read_items.Statement.{statement}

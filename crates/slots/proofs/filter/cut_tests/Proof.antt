@@ -5,7 +5,8 @@ use mathlib.Core.List.{List}
 use Prim.Native.Nat.{ℕ}
 use Rattle.slots.proofs.Cutting.{rest, rest-stop, rest-end, finished-start, finished-end, turn-out, turn-again}
 use Rattle.slots.specs.inner.Steps.{finished}
-use Rattle.slots.specs.Words.{filterSlot, writtenFilter, readItems}
+use Rattle.slots.specs.Words.{filterSlot}
+use Rattle.slots.specs.inner.Words.{writtenFilter, readItems}
 use Rattle.states.specs.States.{cut}
 use Rattle.lists.specs.Filters.{maxTests, testWords}
 use lib.ListN.{length}

@@ -1,7 +1,8 @@
 -- `slots::filter::put_tests` meets its contract. The loop's invariant: the tests that are put, then those still to come, are all of them.
 -- Assumes nothing.
 use Rattle.slots.proofs.Starting.{put-turn, put-end}
-use Rattle.slots.specs.Words.{filterSlot, itemsWords}
+use Rattle.slots.specs.Words.{filterSlot}
+use Rattle.slots.specs.inner.Words.{itemsWords}
 use Rattle.lists.specs.Filters.{testWords, itemsOf}
 use lib.ListN.{length, take, drop}
 use native.Mathlib.Nat.{sub-zero, add-zero}

@@ -10,27 +10,28 @@ use lib.ListN.{length, take, drop, replicate, length-map, take-append-drop}
 use lib.Seq.{take-add, length-take-le}
 use borrow.Author.Tests.{leb-true, leb-false, lt-ltb, le-ltb}
 use Rattle.lists.specs.Filters.{Filter, filtersOf}
-use Rattle.lists.specs.Ranks.{rankSets}
 use Rattle.lists.specs.Refusals.{listed}
 use Rattle.lists.specs.declared.Listed.{Listed}
 use Rattle.lists.specs.declared.Listed.the-variants.{Accepted, Refused}
 use Rattle.sets.specs.Sets.{tally}
 use Rattle.words.specs.Lent.{cleared}
-use Rattle.tables.specs.Tables.{recordWords, maxSlots, slotsOf, recordAt}
-use Rattle.slots.specs.Words.{slotWords, written}
+use Rattle.tables.specs.Tables.{recordWords, slotsOf}
+use Rattle.tables.specs.inner.Records.{recordAt}
+use Rattle.slots.specs.Words.{slotWords}
+use Rattle.slots.specs.inner.Words.{written}
 use Rattle.automaton.specs.Machines.{Machine, recordOf, recordsOf, flat}
 use Rattle.automaton.specs.inner.Placing.{Memory, Placement, slotless, slotted}
 use Rattle.automaton.specs.laws.MetPlaced.{holding}
-use Rattle.machine.specs.Box.{boxOf, slotsIn, statesOf, recordsIn}
-use Rattle.machine.specs.laws.Carried.{whole}
+use Rattle.machine.specs.Box.{boxOf, statesOf, recordsIn}
+use Rattle.machine.specs.inner.Slots.{slotsIn}
 use Rattle.builder.specs.Outcome.{Left, tableWords, scratchWords, refused, noRoom, placed, accepted, outcomeBy, outcome, Answered}
 use Rattle.builder.specs.inner.Memory.{recordsAt, memoryOf, outOf}
 use Rattle.builder.specs.laws.WaysPlaced.{length-states}
-use Rattle.builder.specs.inner.Promises.{Grown, AfterKept}
 use Rattle.builder.specs.declared.Extent.{Extent}
 use Rattle.builder.specs.declared.Extent.the-variants as R
 use Rattle.builder.specs.declared.Built.{Built}
 use Rattle.builder.specs.declared.Built.the-variants as B
+use Rattle.builder.specs.inner.Started.{Started}
 
 -- The records that the table's front holds are its words.
 flat-append : (a b : List (List ℕ)) → flat (a ++ b) ≡ flat a ++ flat b
@@ -48,22 +49,6 @@ records-front (suc u) t =
     ∙ ap (λ (l : List ℕ). take (recordWords * u) t ++ l) (append-nil (recordAt t u))
     ∙ sym (take-add (recordWords * u) recordWords t)
     ∙ ap (λ (k : ℕ). take k t) (sym one)
-
--- An accepted list, its rank sets and rooms of the sizes asked.
-pub record Startable (n slots : ℕ) (ranks l t s : List ℕ) : Type 0 where
-  pub ranked : ranks ≡ rankSets (filtersOf l)
-  pub listing : (k : ℕ) × (listed l ≡ Accepted n k)
-  pub few : slots ≤ maxSlots
-  pub tabled : recordWords * slots ≤ length t
-  pub scratched : slotWords * slots ≤ length s
-
--- The words left by the start of the list fs and all that follows from it.
-pub record Started (n slots : ℕ) (ranks : List ℕ) (fs : List Filter) (t s : List ℕ) (r : Extent) (t' s' : List ℕ) : Type 0 where
-  pub comes : outOf n ranks r t' s' ≡ whole n ranks fs slots
-  pub grows : Grown 0 slots r
-  pub after : AfterKept r t t'
-  pub behind : drop (recordWords * slots) t' ≡ drop (recordWords * slots) t
-  pub beyond : drop (slotWords * slots) s' ≡ drop (slotWords * slots) s
 
 slotted≢slotless : {M : Machine} {m : Memory M} → _≡_ {A = Placement M} (slotted m) slotless → ⊥
 slotted≢slotless e = let z : _≡_ {A = ℕ} 0 1 = cc in omega arith

@@ -1,0 +1,41 @@
+-- Tables whose records can be given states of a list, each the record of its state, whichever of the remaining tests it asks (document 01, "States and the table", with the table's own questions in place of the first remaining test).
+--   FinalRecord t n s       record n is final: zeros in its first seven words, and no test remains in s
+--   AskingRecord May fs t m give n   record n asks what may be asked of its state, and its ways lead to records of the states stepped to
+--   LabelledBy May fs t m   the first m records of the table t are given states of the list fs; May says what may be asked of a state
+--   Labelled fs t m         any of its remaining tests
+use Prim.Native.Nat.{ℕ, _≤_, _<_}
+use mathlib.Core.Path.{_≡_}
+use mathlib.Core.Logic.{_⊎_}
+use mathlib.Core.List.{List, [], _∷_}
+use Rattle.residue.specs.declared.Outcome.{Outcome}
+use Rattle.residue.specs.declared.Outcome.the-variants.{Absent}
+use Rattle.lists.specs.Words.{itemWords}
+use Rattle.lists.specs.Filters.{Item, Filter}
+use Rattle.states.specs.States.{State, start, nothing, questionOf, stepBy, sureSet, outSet}
+use Rattle.states.specs.inner.Choices.{Chosen}
+use Rattle.tables.specs.Tables.{slotsOf, wordOf, sureAt, outAt}
+use Rattle.tables.specs.inner.Records.{questionAt, wayAt}
+
+pub record FinalRecord (t : List ℕ) (n : ℕ) (s : State) : Type 0 where
+  pub zeros : questionAt t n ≡ 0 ∷ 0 ∷ 0 ∷ 0 ∷ []
+  pub nowhere : (o : Outcome) → wayAt t n o ≡ 0
+  pub none : questionOf s ≡ nothing
+
+pub record AskingRecord (May : Item → State → Type 0) (fs : List Filter) (t : List ℕ) (m : ℕ) (give : ℕ → State) (n : ℕ) : Type 0 where
+  pub question : Item
+  pub words : questionAt t n ≡ itemWords question
+  pub may : May question (give n)
+  pub inside : (o : Outcome) → wayAt t n o < m
+  pub leads : (o : Outcome) → give (wayAt t n o) ≡ stepBy fs o question (give n)
+
+pub record LabelledBy (May : Item → State → Type 0) (fs : List Filter) (t : List ℕ) (m : ℕ) : Type 0 where
+  pub give : ℕ → State
+  pub some : 0 < m
+  pub fits : m ≤ slotsOf t
+  pub first : give 0 ≡ start fs
+  pub each : (n : ℕ) → n < m → FinalRecord t n (give n) ⊎ AskingRecord May fs t m give n
+  pub sures : (n : ℕ) → n < m → wordOf t n sureAt ≡ sureSet fs (give n)
+  pub outs : (n : ℕ) → n < m → wordOf t n outAt ≡ outSet fs (give n)
+
+abbrev pub Labelled : List Filter → List ℕ → ℕ → Type 0
+Labelled fs t m = LabelledBy Chosen fs t m

@@ -1,0 +1,3 @@
+pub mod Well
+pub mod Readings
+pub mod Relations
