@@ -217,7 +217,7 @@ pub fn check(list: &[u32]) -> Listed
 }
 
 // Writes the groups and levels of the list's filters, and says how many there are.
-fn heads(list: &[u32], groups: &mut [u32], levels: &mut [u32]) -> usize
+pub fn heads(list: &[u32], groups: &mut [u32], levels: &mut [u32]) -> usize
     requires { ⌜ (length (now groups) ≡ maxFilters) × (length (now levels) ≡ maxFilters) ⌝ }
     ensures { λ r. ⌜ Heads (filtersOf (now (list .entry))) r (now (groups .exit)) (now (levels .exit)) ⌝ }
 {
@@ -233,7 +233,7 @@ fn heads(list: &[u32], groups: &mut [u32], levels: &mut [u32]) -> usize
 }
 
 // Whether filter j ranks above filter i.
-fn ranks_above(groups: &[u32], levels: &[u32], j: usize, i: usize) -> bool
+pub fn ranks_above(groups: &[u32], levels: &[u32], j: usize, i: usize) -> bool
     ensures { λ r. ⌜ r ≡ aboveBy (now (groups .entry)) (now (levels .entry)) j i ⌝ }
 {
     let upper = word_at(levels, j);

@@ -53,10 +53,11 @@ loop-again c =
     let h = c .before in
     let l = h .before .before .loop in
     let a = h .before .before .before .before .args in
-    let r = readingAt (a .present) (a .values .now) in
-    (omega arith,
-    sym (sym (l .inv .1) ∙ tests-turn r (a .list .now) (a .at) (a .count) (l .test) (h .before .loop-test .taken) ∙
-    ap (λ (b : Bool). b && allHold r (itemsOf (a .count - (l .test + 1)) (drop (a .at + testWords * (l .test + 1)) (a .list .now)))) (sym (h .holds-at .ensures) ∙ not-false _ (c .if1 .left))))
+    let r = readingAt (a .present) (a .values .now) in (
+      omega arith,
+      sym (sym (l .inv .1) ∙ tests-turn r (a .list .now) (a .at) (a .count) (l .test) (h .before .loop-test .taken) ∙
+          ap (λ (b : Bool). b && allHold r (itemsOf (a .count - (l .test + 1)) (drop (a .at + testWords * (l .test + 1)) (a .list .now)))) (sym (h .holds-at .ensures) ∙ not-false _ (c .if1 .left))),
+    )
 
 returns-2 : tie.Need-returns-2 Inv-loop μ-loop
 returns-2 c =

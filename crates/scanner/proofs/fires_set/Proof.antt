@@ -75,10 +75,11 @@ loop-again c =
     let r = readingAt (a .present) (a .values .now) in
     let n = accepted-count _ _ _ (b .before .before .before .pre .1) .0 in
     let e = (rw (d .count-at .ensures) at (h .all-hold .ensures)) ∙ fires-here r (a .list .now) (a .n) (l .i) (l .at) (omega (arith, n)) (l .inv .1) (b .loop-test .taken) in
-    rw (c .filter-words .ensures, d .count-at .ensures)
-    (omega arith,
-    at-next (a .list .now) (a .n) (l .i) (l .at) (l .inv .1) (b .loop-test .taken),
-    c .before .put .ensures ∙ ap₂ (λ (x : Bool) (s : ℕ). bit x * 2 ^ (l .i) + s) e (l .inv .2) ∙ sym (tally-put (l .i) (fires (filtersOf (a .list .now)) r)))
+    rw (c .filter-words .ensures, d .count-at .ensures) (
+      omega arith,
+      at-next (a .list .now) (a .n) (l .i) (l .at) (l .inv .1) (b .loop-test .taken),
+      c .before .put .ensures ∙ ap₂ (λ (x : Bool) (s : ℕ). bit x * 2 ^ (l .i) + s) e (l .inv .2) ∙ sym (tally-put (l .i) (fires (filtersOf (a .list .now)) r)),
+    )
 
 returns : tie.Need-returns Inv-loop μ-loop
 returns c =
