@@ -1,19 +1,15 @@
 -- A filter's tests asked in turn, and the filters of a list.
 use Prim.Native.Nat.{ℕ, _+_, _-_, _*_, _≤_, _<_}
-use mathlib.Core.Path.{_≡_, refl, sym, ap, ap₂, _∙_}
-use mathlib.Core.Bool.{Bool, true, false, _&&_}
-use mathlib.Core.List.{List, [], _∷_}
+use mathlib.Core.Path.{_≡_, sym, ap, _∙_}
+use mathlib.Core.Bool.{Bool, true, _&&_}
+use mathlib.Core.List.{List}
 use native.Mathlib.Nat.{add-zero}
-use native.Mathlib.Omega.{arith}
-use lib.Dec.{ltb}
 use lib.ListN.{length, getD, drop}
 use lib.Seq.{drop-drop, getD-drop}
 use borrow.Author.Tests.{lt-ltb}
 use Rattle.residue.specs.Tests.{holdsOf}
 use Rattle.residue.specs.declared.Reading.{Reading}
-use Rattle.lists.specs.Filters.{headWords, testWords, countWord, Item, Filter, itemOf, itemsOf, filterOf, filtersOf}
-use Rattle.lists.specs.Refusals.{listed}
-use Rattle.lists.specs.declared.Listed.the-variants.{Accepted}
+use Rattle.lists.specs.Filters.{headWords, testWords, countWord, Filter, itemOf, itemsOf, filterOf, filtersOf}
 use Rattle.lists.specs.Ranks.{noFilter, testsOf, allHold, fires}
 use Rattle.lists.specs.laws.Items.{items-turn, items-end}
 use Rattle.lists.specs.laws.Walking.{At, at-rest}

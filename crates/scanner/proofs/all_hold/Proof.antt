@@ -1,3 +1,5 @@
+-- `scanner::all_hold` meets its contract. The invariant: what the tests still to come say is what all of them say.
+-- The measure is the number of tests left. Assumes nothing.
 use Prim.Native.Nat.{ℕ, _+_, _-_, _*_, _≤_}
 use mathlib.Core.Path.{_≡_, sym, ap, ap₂, _∙_}
 use mathlib.Core.Bool.{Bool, _&&_}

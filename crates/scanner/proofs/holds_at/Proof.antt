@@ -1,3 +1,5 @@
+-- `scanner::holds_at` meets its contract: the definition, by what the field reads.
+-- Assumes nothing.
 use Rattle.residue.specs.Tests.{holdsOf}
 use borrow.Author.Needs.{needs}
 use Rattle.scanner.proofs.holds_at.Statement.{statement}
