@@ -1,6 +1,9 @@
 -- `scanner::holds_at` meets its contract: the definition, by what the field reads.
 -- Assumes nothing.
-use Rattle.residue.specs.Tests.{holdsOf}
+use mathlib.Core.Path.{sym, ap, _∙_}
+use Rattle.residue.specs.Tests.{holds, holdsOf}
+use Rattle.residue.specs.declared.Test.{Test}
+use Rattle.fields.specs.Header.{readingAt}
 use borrow.Author.Needs.{needs}
 use Rattle.scanner.proofs.holds_at.Statement.{statement}
 use Rattle.scanner.proofs.holds_at.Tie as tie
@@ -19,7 +22,9 @@ enum-told c = search needs
 
 returns : tie.Need-returns
 unfolding holdsOf
-returns c = rw (← c .before .before .before .field-at .ensures, ← c .before .before .reading-at .ensures, c .enum-told .given .1)
+returns c =
+    let r = c .before .before in
+    sym (ap (holdsOf _) (ap (readingAt _ _) (sym (r .before .field-at .ensures)) ∙ sym (r .reading-at .ensures) ∙ c .enum-told .given .1))
 
 test-at-requires : tie.Need-test-at-requires
 test-at-requires c κs = search needs
@@ -30,10 +35,11 @@ test-holds-requires c κs = search needs
 returns-2 : tie.Need-returns-2
 unfolding holdsOf
 returns-2 c =
-    let t = c .before in
-    let x = t .before in
-    let r = x .before .before .before in
-    rw (← r .before .field-at .ensures, ← r .reading-at .ensures, x .before .x .given .1, ← t .test-at .ensures) (c .test-holds .ensures)
+    let x = c .before .before .before .x .given in
+    let r = c .before .before .before .before .before in
+    c .test-holds .ensures ∙
+    ap (λ (t : Test). holds t (x .0 .0)) (c .before .test-at .ensures) ∙
+    sym (ap (holdsOf _) (ap (readingAt _ _) (sym (r .before .field-at .ensures)) ∙ sym (r .reading-at .ensures) ∙ x .1))
 
 pub holds-at-spec : {M : Type 1} → statement M
 holds-at-spec =
