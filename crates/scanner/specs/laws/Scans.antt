@@ -1,10 +1,9 @@
--- The promise determines the answer, and what it says in each case.
---   scanned-once       two outcomes of the same list, frame and port are equal
+-- What the promise says in each case.
 --   scanned-refused    a list's refusal is named with its filter
 --   scanned-long       else a frame of more than 1,522 bytes is refused with 12
 --   scanned-set        else the answer is the match set
 use Prim.Native.Nat.{ℕ, _≤_, _<_}
-use mathlib.Core.Path.{_≡_, sym, _∙_}
+use mathlib.Core.Path.{_≡_}
 use mathlib.Core.List.{List}
 use lib.ListN.{length}
 use borrow.Author.Tests.{lt-ltb, le-ltb}
@@ -15,13 +14,9 @@ use Rattle.lists.specs.Ranks.{matchSet}
 use Rattle.lists.specs.Refusals.{listed}
 use Rattle.lists.specs.declared.Listed.the-variants as L
 use Rattle.scanner.specs.Scan.{scannedBy, scanned}
-use Rattle.scanner.specs.declared.Scanned.{Scanned}
 use Rattle.scanner.specs.declared.Scanned.the-variants.{Matched, Refused}
 
 module _ (l f : List ℕ) (p : ℕ) where
-  pub scanned-once : (a b : Scanned) → a ≡ scanned l f p → b ≡ scanned l f p → a ≡ b
-  scanned-once a b x y = x ∙ sym y
-
   pub scanned-refused : (r i : ℕ) → listed l ≡ L.Refused r i → scanned l f p ≡ Refused r i
   unfolding scanned scannedBy
   scanned-refused r i e = rw e
