@@ -1,21 +1,55 @@
 -- The filters of a set above which none of the set ranks.
 --   top-columns     by the columns, as by the list
---   top-none        of the empty set, none
+--   alone           a set s with no bit in common with s - 1 has one member at most
+--   lone-held       where one filter holds at most, those that hold are the match set
 --   top-matches, top-held   of the filters that hold, the match set
-use Prim.Native.Nat.{ℕ, _<_}
-use mathlib.Core.Path.{_≡_, ap, ap₂, _∙_}
-use mathlib.Core.Bool.{Bool, not, _&&_}
-use mathlib.Core.List.{List}
-use lib.ListN.{length}
+use Prim.Native.Nat.{ℕ, zero, suc, _+_, _-_, _*_, _/_, _<_}
+use mathlib.Core.Path.{_≡_, refl, sym, ap, ap₂, _∙_, subst}
+use mathlib.Core.Bool.{Bool, true, false, not, _&&_, false≢true}
+use mathlib.Core.List.{List, [], _∷_}
+use native.Mathlib.Omega.{arith}
+use lib.Bits.{bitAnd, and-step, and-self}
+use lib.Dec.{eqb}
+use lib.ListN.{length, getD}
 use borrow.Author.Tests.{lt-ltb, eqb-true}
+use Rattle.residue.specs.laws.Choice.{same-bool, clash}
 use Rattle.residue.specs.declared.Reading.{Reading}
 use Rattle.sets.specs.Sets.{setOf, tally, member, some}
-use Rattle.sets.specs.laws.Members.{member-empty, member-tally, tally-ext, some-ext, some-none, zero-tally}
+use Rattle.sets.specs.laws.Members.{member-empty, member-setOf, member-tally, getD-tally, tally-ext, some-ext}
 use Rattle.lists.specs.Filters.{Filter}
 use Rattle.lists.specs.Ranks.{above, fires, matches, matchSet}
 use Rattle.lists.specs.inner.Columns.{aboveBy, Heads}
 use Rattle.lists.specs.laws.Columns.{above-agrees}
+use Rattle.lists.specs.laws.Ranking.{above-irreflexive}
+use Rattle.lists.specs.laws.Topmost as T
 use Rattle.scanner.specs.inner.Standing.{beatenBy, standsBy, topSet}
+
+none-in : (bs : List Bool) (i : ℕ) → setOf bs ≡ 0 → getD bs i false ≡ true → ⊥
+none-in bs i z p = false≢true (sym (member-empty i) ∙ ap (member i) (sym z) ∙ member-setOf bs i ∙ p)
+
+-- Behind the lowest member there is none.
+rest-none : (s : ℕ) → bitAnd (s * 2 + 1) (s * 2 + 1 - 1) ≡ 0 → s ≡ 0
+rest-none s e =
+    let a : (s * 2 + 1) / 2 ≡ s = omega arith in
+    let b : (s * 2 + 1 - 1) / 2 ≡ s = omega arith in
+    omega (arith, sym (and-step (s * 2 + 1) (s * 2 + 1 - 1)) ∙ e, ap₂ bitAnd a b ∙ and-self s)
+
+-- Below it the rest is as the whole.
+rest-alone : (s : ℕ) → bitAnd (s * 2 + 0) (s * 2 + 0 - 1) ≡ 0 → bitAnd s (s - 1) ≡ 0
+rest-alone s e =
+    let a : (s * 2 + 0) / 2 ≡ s = omega arith in
+    let b : (s * 2 + 0 - 1) / 2 ≡ s - 1 = omega arith in
+    omega (arith, sym (and-step (s * 2 + 0) (s * 2 + 0 - 1)) ∙ e, ap₂ bitAnd a b)
+
+pub alone : (bs : List Bool) → bitAnd (setOf bs) (setOf bs - 1) ≡ 0 → (i j : ℕ) → getD bs i false ≡ true → getD bs j false ≡ true → i ≡ j
+unfolding setOf
+alone [] e i j p q = absurd (none-in [] i refl p)
+alone (true ∷ bs) e zero zero p q = refl
+alone (true ∷ bs) e zero (suc j) p q = absurd (none-in bs j (rest-none (setOf bs) e) q)
+alone (true ∷ bs) e (suc i) j p q = absurd (none-in bs i (rest-none (setOf bs) e) p)
+alone (false ∷ bs) e zero j p q = absurd (false≢true p)
+alone (false ∷ bs) e (suc i) zero p q = absurd (false≢true q)
+alone (false ∷ bs) e (suc i) (suc j) p q = ap suc (alone bs (rest-alone (setOf bs) e) i j p q)
 
 module _ (fs : List Filter) where
   -- Filter i is in a set that p gives, and none of the set ranks above it.
@@ -31,13 +65,6 @@ module _ (fs : List Filter) where
       (λ i l. ap (λ (b : Bool). member i s && not b)
       (some-ext n (λ j. aboveBy gs ls j i && member j s) (λ j. above fs j i && member j s)
       (λ j m. ap (λ (b : Bool). b && member j s) (above-agrees fs n gs ls h j i m l))))))
-
-  pub top-none : topSet fs 0 ≡ 0
-  unfolding topSet
-  top-none =
-      let p = top (λ i. member i 0) in
-      eqb-true (setOf (tally (length fs) p)) 0
-      (zero-tally (length fs) p ∙ ap not (some-none (length fs) p (λ i _. rw (member-empty i))))
 
   module _ (r : ℕ → Reading) where
     abbrev held : ℕ
@@ -55,6 +82,27 @@ module _ (fs : List Filter) where
         (some-ext (length fs) (λ j. above fs j i && member j held) (λ j. above fs j i && fires fs r j)
         (λ j m. ap (λ (b : Bool). above fs j i && b) (in-held j m)))))
 
--- The same where the set was made of n filters, by readings that are the frame's.
-pub top-held : (fs : List Filter) (q r : ℕ → Reading) (n s : ℕ) → length fs ≡ n → q ≡ r → s ≡ setOf (tally n (fires fs q)) → topSet fs s ≡ matchSet fs r
-top-held fs q r n s e z h = rw (h, ← e, z) (top-matches fs r)
+    in-tally : (i : ℕ) → fires fs r i ≡ true → getD (tally (length fs) (fires fs r)) i false ≡ true
+    in-tally i e = getD-tally (length fs) (fires fs r) false i (T.fires-below fs r i e) ∙ e
+
+    lone-matches : bitAnd held (held - 1) ≡ 0 → held ≡ matchSet fs r
+    unfolding matchSet
+    lone-matches e =
+        ap setOf
+        (tally-ext (length fs) (fires fs r) (λ i. matches fs r i)
+        (λ i l. same-bool (fires fs r i) (matches fs r i)
+        (λ f. T.top-matches fs r i f (λ j a g. clash (above fs i i)
+        (subst (λ (k : ℕ). above fs k i ≡ true) (alone (tally (length fs) (fires fs r)) e j i (in-tally j g) (in-tally i f)) a)
+        (above-irreflexive fs i)))
+        (λ m. T.matches-fires fs r i m)))
+
+-- Both where the set was made of n filters, by readings that are the frame's.
+module _ (fs : List Filter) (q r : ℕ → Reading) (n s : ℕ) (e : length fs ≡ n) (z : q ≡ r) (h : s ≡ setOf (tally n (fires fs q))) where
+  pub top-held : topSet fs s ≡ matchSet fs r
+  top-held = rw (h, ← e, z) (top-matches fs r)
+
+  whole : s ≡ setOf (tally (length fs) (fires fs r))
+  whole = h ∙ ap₂ (λ (k : ℕ) (p : ℕ → Reading). setOf (tally k (fires fs p))) (sym e) z
+
+  pub lone-held : eqb (bitAnd s (s - 1)) 0 ≡ true → s ≡ matchSet fs r
+  lone-held b = whole ∙ lone-matches fs r (ap (λ (x : ℕ). bitAnd x (x - 1)) (sym whole) ∙ eqb-true (bitAnd s (s - 1)) 0 b)

@@ -1,7 +1,9 @@
 // A list and a frame, without a table: each filter is asked in turn (change request P1).
 ghost use mathlib.Core.Path.{_≡_};
 ghost use mathlib.Core.Bool.{_&&_};
-ghost use Prim.Native.Nat.{ℕ, _+_, _*_, _≤_, _<_};
+ghost use Prim.Native.Nat.{ℕ, _+_, _-_, _*_, _≤_, _<_};
+ghost use lib.Bits.{bitAnd};
+ghost use lib.Dec.{eqb};
 ghost use lib.ListN.{length, drop};
 ghost use Rattle.sets.specs.Sets.{setOf, tally, member};
 ghost use Rattle.residue.specs.Tests.{holdsOf};
@@ -129,20 +131,28 @@ fn standing(groups: &[u32], levels: &[u32], n: usize, held: Set) -> Set
     set
 }
 
+// Whether a set has one member at most.
+fn lone(set: Set) -> bool
+    ensures { λ r. ⌜ r ≡ eqb (bitAnd set (set - 1)) 0 ⌝ }
+{
+    if set == 0 {
+        return true;
+    }
+    set & (set - 1) == 0
+}
+
 // The filters of a set above which none of the set ranks.
 fn top_set(list: &[u32], held: Set) -> Set
     ensures { λ r. ⌜ r ≡ topSet (filtersOf (now (list .entry))) held ⌝ }
 {
-    if held == 0 {
-        return 0;
-    }
     let mut groups = [0u32; MAX_FILTERS];
     let mut levels = [0u32; MAX_FILTERS];
     let n = lists::heads(list, &mut groups, &mut levels);
     standing(&groups, &levels, n, held)
 }
 
-// The match set of a frame by an accepted list of n filters, which is not checked again.
+// The match set of a frame by an accepted list of n filters, which is not checked again. Of most frames one filter holds at most:
+// then no rank is looked at.
 pub fn scan_accepted(list: &[u32], n: usize, frame: &[u8], port: u8) -> Set
     requires { ⌜ ((t : ℕ) × (listed (now list) ≡ Accepted n t)) ⌝ }
     ensures { λ r. ⌜ r ≡ matchSet (filtersOf (now (list .entry))) (field (now (frame .entry)) port) ⌝ }
@@ -150,6 +160,9 @@ pub fn scan_accepted(list: &[u32], n: usize, frame: &[u8], port: u8) -> Set
     let mut values = [0u32; FIELDS];
     let present = fields::read_header(frame, port, &mut values);
     let held = fires_set(list, n, present, &values);
+    if lone(held) {
+        return held;
+    }
     top_set(list, held)
 }
 

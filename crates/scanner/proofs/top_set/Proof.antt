@@ -1,14 +1,11 @@
 -- `scanner::top_set` meets its contract: the columns give the list's own ranks.
 -- Assumes nothing.
-use mathlib.Core.Path.{sym, _∙_}
+use mathlib.Core.Path.{_∙_}
 use Rattle.lists.specs.Filters.{filtersOf}
-use Rattle.scanner.proofs.Tops.{top-columns, top-none}
+use Rattle.scanner.proofs.Tops.{top-columns}
 use borrow.Author.Needs.{needs}
 use Rattle.scanner.proofs.top_set.Statement.{statement}
 use Rattle.scanner.proofs.top_set.Tie as tie
-
-returns : tie.Need-returns
-returns c = rw (c .if1 .taken) (sym (top-none (filtersOf (c .before .before .args .list .now))))
 
 slice-aggregate-heads : tie.Need-slice-aggregate-heads
 slice-aggregate-heads c = search needs
@@ -28,10 +25,10 @@ slice-aggregate-standing-2 c = search needs
 standing-requires : tie.Need-standing-requires
 standing-requires c κs = search needs
 
-returns-2 : tie.Need-returns-2
-returns-2 c =
+returns : tie.Need-returns
+returns c =
     let h = c .before .before .before .before .before in
-    let a = h .before .before .before .before .before .args in
+    let a = h .before .before .before .before .args in
     c .standing .ensures ∙
     top-columns (filtersOf (a .list .now)) (h .heads .result) (h .heads .last .1 .0) (h .heads .last .1 .1 .0) (a .held) (h .heads .ensures)
 
@@ -39,11 +36,10 @@ pub top-set-spec : {M : Type 1} → statement M
 top-set-spec =
     tie.close
     (tie.spec
-    returns
     slice-aggregate-heads
     slice-aggregate-heads-2
     heads-requires
     slice-aggregate-standing
     slice-aggregate-standing-2
     standing-requires
-    returns-2)
+    returns)
