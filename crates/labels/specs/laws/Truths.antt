@@ -15,7 +15,7 @@ use Rattle.residue.specs.declared.Reading.{Reading}
 use Rattle.fields.specs.Ethernet.{maxFrame}
 use Rattle.fields.specs.Fields.{field}
 use Rattle.fields.specs.laws.Values.{value-in-width}
-use Rattle.sets.specs.Sets.{setOf, tally, member}
+use Rattle.sets.specs.Sets.{setOf, member}
 use Rattle.sets.specs.laws.Members.{tally-ext}
 use Rattle.lists.specs.inner.Well.{wellFilters}
 use Rattle.lists.specs.Filters.{Item, Filter, testsIn}

@@ -1,11 +1,10 @@
 -- `scanner::fires_set` meets its contract. The invariant: the next filter begins at the place, and the set is the tally of the filters passed.
 -- The measure is the number of filters left. Assumes nothing.
-use Prim.Native.Nat.{ℕ, _+_, _-_, _*_, _^_, _≤_, _<_}
+use Prim.Native.Nat.{ℕ, _+_, _-_, _*_, _^_, _≤_}
 use mathlib.Core.Path.{_≡_, refl, sym, ap, ap₂, _∙_}
 use mathlib.Core.Bool.{Bool}
 use native.Mathlib.Omega.{arith}
 use native.Mathlib.Nat.{le-refl}
-use lib.ListN.{length, drop}
 use Rattle.sets.specs.Sets.{bit, setOf, tally}
 use Rattle.sets.specs.laws.Members.{tally-put, tally-bound}
 use Rattle.fields.specs.Header.{readingAt}
