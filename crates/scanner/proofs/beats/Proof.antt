@@ -23,6 +23,7 @@ ranks-above-requires : tie.Need-ranks-above-requires
 ranks-above-requires c κs = search needs
 
 returns-2 : tie.Need-returns-2
+unfolding aboveBy
 returns-2 c =
     let b = c .before in
     rw (sym (b .before .has .ensures) ∙ not-false _ (b .if1 .left)) (c .ranks-above .ensures ∙ sym (and-true _))
