@@ -1,21 +1,20 @@
 -- The filters of a set above which none of the set ranks.
 --   top-columns     by the columns, as by the list
---   alone           a set s with no bit in common with s - 1 has one member at most
 --   lone-held       where one filter holds at most, those that hold are the match set
 --   top-matches, top-held   of the filters that hold, the match set
-use Prim.Native.Nat.{ℕ, zero, suc, _+_, _-_, _*_, _/_, _<_}
-use mathlib.Core.Path.{_≡_, refl, sym, ap, ap₂, _∙_, subst}
-use mathlib.Core.Bool.{Bool, true, false, not, _&&_, false≢true}
-use mathlib.Core.List.{List, [], _∷_}
-use native.Mathlib.Omega.{arith}
-use lib.Bits.{bitAnd, and-step, and-self}
+use Prim.Native.Nat.{ℕ, _-_, _<_}
+use mathlib.Core.Path.{_≡_, sym, ap, ap₂, _∙_, subst}
+use mathlib.Core.Bool.{Bool, true, false, not, _&&_}
+use mathlib.Core.List.{List}
+use lib.Bits.{bitAnd}
 use lib.Dec.{eqb}
 use lib.ListN.{length, getD}
 use borrow.Author.Tests.{lt-ltb, eqb-true}
 use Rattle.residue.specs.laws.Choice.{same-bool, clash}
 use Rattle.residue.specs.declared.Reading.{Reading}
 use Rattle.sets.specs.Sets.{setOf, tally, member, some}
-use Rattle.sets.specs.laws.Members.{member-empty, member-setOf, member-tally, getD-tally, tally-ext, some-ext}
+use Rattle.sets.specs.laws.Lone.{alone}
+use Rattle.sets.specs.laws.Members.{member-tally, getD-tally, tally-ext, some-ext}
 use Rattle.lists.specs.Filters.{Filter}
 use Rattle.lists.specs.Ranks.{above, fires, matches, matchSet}
 use Rattle.lists.specs.inner.Columns.{aboveBy, Heads}
@@ -23,33 +22,6 @@ use Rattle.lists.specs.laws.Columns.{above-agrees}
 use Rattle.lists.specs.laws.Ranking.{above-irreflexive}
 use Rattle.lists.specs.laws.Topmost as T
 use Rattle.scanner.specs.inner.Standing.{beatenBy, standsBy, topSet}
-
-none-in : (bs : List Bool) (i : ℕ) → setOf bs ≡ 0 → getD bs i false ≡ true → ⊥
-none-in bs i z p = false≢true (sym (member-empty i) ∙ ap (member i) (sym z) ∙ member-setOf bs i ∙ p)
-
--- Behind the lowest member there is none.
-rest-none : (s : ℕ) → bitAnd (s * 2 + 1) (s * 2 + 1 - 1) ≡ 0 → s ≡ 0
-rest-none s e =
-    let a : (s * 2 + 1) / 2 ≡ s = omega arith in
-    let b : (s * 2 + 1 - 1) / 2 ≡ s = omega arith in
-    omega (arith, sym (and-step (s * 2 + 1) (s * 2 + 1 - 1)) ∙ e, ap₂ bitAnd a b ∙ and-self s)
-
--- Below it the rest is as the whole.
-rest-alone : (s : ℕ) → bitAnd (s * 2 + 0) (s * 2 + 0 - 1) ≡ 0 → bitAnd s (s - 1) ≡ 0
-rest-alone s e =
-    let a : (s * 2 + 0) / 2 ≡ s = omega arith in
-    let b : (s * 2 + 0 - 1) / 2 ≡ s - 1 = omega arith in
-    omega (arith, sym (and-step (s * 2 + 0) (s * 2 + 0 - 1)) ∙ e, ap₂ bitAnd a b)
-
-pub alone : (bs : List Bool) → bitAnd (setOf bs) (setOf bs - 1) ≡ 0 → (i j : ℕ) → getD bs i false ≡ true → getD bs j false ≡ true → i ≡ j
-unfolding setOf
-alone [] e i j p q = absurd (none-in [] i refl p)
-alone (true ∷ bs) e zero zero p q = refl
-alone (true ∷ bs) e zero (suc j) p q = absurd (none-in bs j (rest-none (setOf bs) e) q)
-alone (true ∷ bs) e (suc i) j p q = absurd (none-in bs i (rest-none (setOf bs) e) p)
-alone (false ∷ bs) e zero j p q = absurd (false≢true p)
-alone (false ∷ bs) e (suc i) zero p q = absurd (false≢true q)
-alone (false ∷ bs) e (suc i) (suc j) p q = ap suc (alone bs (rest-alone (setOf bs) e) i j p q)
 
 module _ (fs : List Filter) where
   -- Filter i is in a set that p gives, and none of the set ranks above it.
