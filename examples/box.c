@@ -1,6 +1,6 @@
 /*
- * Compiles three filters and classifies one frame with them. From the repository root, once the
- * library is built:
+ * Compiles three filters, classifies one frame with them, and scans it by the list alone. From the
+ * repository root, once the library is built:
  *
  *   gcc -Wall -Iinclude examples/box.c target/staticlib/libfilterbox.a -o box && ./box
  *
@@ -57,5 +57,8 @@ int main(void) {
         printf("allowance %" PRIu32 ": %s, sure %" PRIu32 ", out %" PRIu32 ", asked %" PRIu32 "\n",
                allowance, ended[answer.ended], answer.sure, answer.out, answer.asked);
     }
+    FilterboxScanned scanned =
+        filterbox_scan(list, sizeof list / sizeof *list, frame, sizeof frame, 0);
+    printf("scanned: refusal %" PRIu32 ", set %" PRIu32 "\n", scanned.refusal, scanned.set);
     return 0;
 }

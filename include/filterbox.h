@@ -1,5 +1,6 @@
 /*
- * filterbox: compiles a list of packet filters into a table, and walks frames through the table.
+ * filterbox: compiles a list of packet filters into a table, and walks frames through the table; or
+ * scans a frame by the list alone.
  *
  * The library keeps nothing between calls and allocates nothing: all memory is lent by the caller,
  * who may call it from any thread. It never fails in any other way than by the refusal numbers
@@ -103,6 +104,23 @@ FilterboxBuilt filterbox_build(const uint32_t *list, size_t list_len, uint32_t *
 FilterboxAnswer filterbox_classify(const uint8_t *frame, size_t frame_len, uint8_t port,
                                    const uint32_t *table, size_t table_len, uint32_t states,
                                    uint32_t allowance);
+
+/* What scanning answers. */
+typedef struct FilterboxScanned {
+    uint32_t refusal; /* 0, or 1 to 9 or 12 where refused */
+    uint32_t filter;  /* the filter's number for refusals 1 to 9 (32 for 1), else 0 */
+    uint32_t set;     /* the match set; empty where refused */
+} FilterboxScanned;
+
+/*
+ * Names the match set of a frame by asking each filter of a list in turn. No table is needed.
+ *
+ * list: as for filterbox_build; frame and port: as for filterbox_classify.
+ *
+ * The whole list is read first, so refusals 1 to 9 come before 12. Nothing lent is written.
+ */
+FilterboxScanned filterbox_scan(const uint32_t *list, size_t list_len, const uint8_t *frame,
+                                size_t frame_len, uint8_t port);
 
 /* Answers the number of scratch words that building takes for each slot of the table. */
 uint32_t filterbox_scratch_words(void);

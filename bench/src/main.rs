@@ -1,6 +1,7 @@
 //! Measures the library beside ordinary Rust code that does the same, as ratios in one run.
 //!
-//! - `filterbox-bench`: nanoseconds a frame for three lists, and build times, as two small tables;
+//! - `filterbox-bench`: nanoseconds a frame for three lists, walked and scanned, and build times, as
+//!   three small tables;
 //! - `filterbox-bench count CASE WHO N`: classifies N frames of a case (a, b, c) with one contender
 //!   (library, in-turn, sorted, walk) and nothing else, for counting instructions;
 //! - `filterbox-bench far CASE CALL N`: the same over the pipe of the tests, where the library cannot
@@ -112,6 +113,37 @@ fn classify_table(cases: &[Case]) {
     }
 }
 
+/// The call without a table. A frame that is too long ends it behind the list's check, so that the
+/// check's own time is known; the plain scanner has its list read and ranked before the first frame.
+fn scan_table(cases: &[Case]) {
+    println!("\nScanning without a table, ns a frame and ratio to the scanner that asks in turn");
+    println!(
+        "{:<26}{:>10}{:>10}{:>12}{:>16}{:>7}",
+        "list", "in turn", "library", "list check", "without it", "ratio"
+    );
+    let long = [0; 1523];
+    for case in cases {
+        let in_turn = InTurn::new(&case.list);
+        let ours = |frame: &[u8]| library::scan(&case.list, frame, 0).set;
+        let check = |_: &[u8]| library::scan(&case.list, black_box(&long), 0).refusal;
+        let sets = case.sets(|frame| in_turn.scan_in_turn(frame, 0));
+        assert!(sets == case.sets(ours));
+        let mut times = [const { Vec::new() }; 3];
+        for _ in 0..ROUNDS {
+            times[0].push(time(case, |frame| in_turn.scan_in_turn(frame, 0)));
+            times[1].push(time(case, ours));
+            times[2].push(time(case, check));
+        }
+        let [base, whole, check] = times.map(|mut rounds| median(&mut rounds));
+        let rest = whole - check;
+        println!(
+            "{:<26}{base:>10.1}{whole:>10.1}{check:>12.1}{rest:>16.1}{:>7.2}",
+            case.name,
+            rest / base
+        );
+    }
+}
+
 fn built_by_the_library(case: &Case) -> Vec<u32> {
     let mut table = vec![0; case.table.len()];
     let mut scratch = vec![0; case.states as usize * library::scratch_words()];
@@ -213,6 +245,7 @@ fn main() {
     match words.iter().map(String::as_str).collect::<Vec<_>>()[..] {
         [] => {
             classify_table(&cases());
+            scan_table(&cases());
             build_table();
         }
         ["count", name, who, frames] => count(&case(name), who, frames.parse().expect("a number")),

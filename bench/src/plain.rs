@@ -89,7 +89,7 @@ impl Compare for AsSlices {
 }
 
 /// The refusal of a list's first fault and its filter, or the number of filters.
-fn check(list: &[u32]) -> Result<usize, Built> {
+pub fn check(list: &[u32]) -> Result<usize, Built> {
     let mut at = 0;
     let mut filter = 0;
     while at < list.len() {

@@ -8,7 +8,7 @@ use std::env;
 use std::sync::OnceLock;
 
 use filterbox_sys as linked;
-use filterbox_sys::{Answer, Built};
+use filterbox_sys::{Answer, Built, Scanned};
 
 use crate::pages::{lent, shown};
 use crate::pipe::{self, Call, Place, Room, Words};
@@ -84,6 +84,18 @@ impl Library {
             shown(self.place, table, |table| {
                 linked::classify(frame, port, table, states, allowance)
             })
+        })
+    }
+
+    /// Asks each filter of a list in turn.
+    pub fn scan(self, list: &[u32], frame: &[u8], port: u8) -> Scanned {
+        if self.piped {
+            let rooms = &mut [Room::Shown(list), Room::Bytes(frame)];
+            let [refusal, filter, set, ..] = self.call(pipe::SCAN, &[u32::from(port)], rooms);
+            return Scanned { refusal, filter, set };
+        }
+        shown(self.place, list, |list| {
+            shown(self.place, frame, |frame| linked::scan(list, frame, port))
         })
     }
 

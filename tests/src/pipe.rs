@@ -14,6 +14,7 @@ use std::sync::Mutex;
 pub const SCRATCH_WORDS: u32 = 1;
 pub const BUILD: u32 = 2;
 pub const CLASSIFY: u32 = 3;
+pub const SCAN: u32 = 4;
 /// No calls of the library: classifying that answers at once, by which instructions are counted, and
 /// touching a byte beside a room, to see that this is found.
 pub const NOTHING: u32 = 254;

@@ -3,8 +3,12 @@
 
 #[path = "../../bench/src/plain.rs"]
 mod plain;
+#[path = "../../bench/src/scanner.rs"]
+mod scanner;
 
+use filterbox_sys::Scanned;
 use plain::{Answer, Built, WordByWord, SLOT};
+use scanner::InTurn;
 use std::slice::{from_raw_parts, from_raw_parts_mut};
 
 /// # Safety
@@ -46,6 +50,27 @@ pub unsafe extern "C" fn filterbox_classify(
     )
 }
 
+/// # Safety
+/// Each pointer must be good for as much as the length behind it says.
+#[no_mangle]
+pub unsafe extern "C" fn filterbox_scan(
+    list: *const u32,
+    list_len: usize,
+    frame: *const u8,
+    frame_len: usize,
+    port: u8,
+) -> Scanned {
+    let (list, frame) = (from_raw_parts(list, list_len), from_raw_parts(frame, frame_len));
+    let refused = |refusal, filter| Scanned { refusal, filter, set: 0 };
+    if let Err(built) = plain::check(list) {
+        return refused(built.refusal, built.number);
+    }
+    if frame.len() > 1522 {
+        return refused(12, 0);
+    }
+    Scanned { refusal: 0, filter: 0, set: InTurn::new(list).scan_in_turn(frame, port) }
+}
+
 #[no_mangle]
 pub extern "C" fn filterbox_scratch_words() -> u32 {
     SLOT as u32
@@ -54,4 +79,5 @@ pub extern "C" fn filterbox_scratch_words() -> u32 {
 // Each is what the interface declares.
 const _: filterbox_sys::types::filterbox_build = filterbox_build;
 const _: filterbox_sys::types::filterbox_classify = filterbox_classify;
+const _: filterbox_sys::types::filterbox_scan = filterbox_scan;
 const _: filterbox_sys::types::filterbox_scratch_words = filterbox_scratch_words;

@@ -12,6 +12,7 @@ states 10
 allowance 0: stopped, sure 0, out 0, asked 0
 allowance 1: stopped, sure 1, out 2, asked 1
 allowance 2: done, sure 5, out 2, asked 2
+scanned: refusal 0, set 5
 ";
 
 /// Warnings count as errors: the header is read by other people's compilers.

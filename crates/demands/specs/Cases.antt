@@ -30,7 +30,6 @@ use Rattle.fields.specs.Fields as F
 use Rattle.sets.specs.Sets as S
 use Rattle.lists.specs.Filters as L
 use Rattle.lists.specs.Ranks as R
-use Rattle.lists.specs.inner.Matches as RM
 use Rattle.tables.specs.Tables as B
 use Rattle.machine.specs.Box.{recordsIn}
 use Rattle.machine.specs.Cases.{echoIn, echo, echoTable, echo-records}
@@ -96,9 +95,9 @@ marked-cases (suc more) =
     rw (three, echo-records)
 
 -- In one group with the levels 3, 2, 1 the frame matches filter 0 alone, with 1, 2, 3 filter 2 alone.
-pub one-group : (RM.matchSet (L.filtersOf (echoIn 1 3 1 2 1 1)) (F.field echoFrame 0) ≡ 1) × (RM.matchSet (L.filtersOf (echoIn 1 1 1 2 1 3)) (F.field echoFrame 0) ≡ 4)
+pub one-group : (R.matchSet (L.filtersOf (echoIn 1 3 1 2 1 1)) (F.field echoFrame 0) ≡ 1) × (R.matchSet (L.filtersOf (echoIn 1 1 1 2 1 3)) (F.field echoFrame 0) ≡ 4)
 unfolding
-    RM.matchSet echoFrame echoIn L.filtersOf L.filtersFrom L.filterOf L.itemsOf L.itemOf L.testOf
+    R.matchSet echoFrame echoIn L.filtersOf L.filtersFrom L.filterOf L.itemsOf L.itemOf L.testOf
     R.above R.outranks R.matches R.fires R.allHold T.holdsOf T.holds S.setOf S.tally S.some
     F.field F.readings F.puts P.putAll Y.two Y.four N.ethernet I.internet I.internetPuts I.version I.headerLength I.totalLength I.protocol I.transport I.transportStart
     I.transportEnd X.transportPuts

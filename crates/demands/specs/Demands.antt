@@ -29,10 +29,12 @@ use Rattle.tables.specs.Tables.{slotsOf}
 use Rattle.machine.specs.Box.{boxOf, statesOf}
 use Rattle.machine.specs.laws.Lawful.{states-distinct, states-reached, reached-states}
 use Rattle.matcher.specs.Walk.{Shown, walk}
+use Rattle.scanner.specs.Scan.{scanned}
+use Rattle.scanner.specs.declared.Scanned.the-variants.{Matched}
 use Rattle.builder.specs.Outcome.{Left, scratchWords, outcome}
 use Rattle.labels.specs.Labels.{shownAt, Legal}
 use Rattle.demands.specs.laws.Builds.{build-full, build-fits}
-use Rattle.demands.specs.laws.Settled.{exact, all-done, all-matches, open-so, sure-so, out-so, sure-kept, out-kept, none-left, asked-few}
+use Rattle.demands.specs.laws.Settled.{exact, all-done, all-matches, all-scanned, open-so, sure-so, out-so, sure-kept, out-kept, none-left, asked-few}
 use Rattle.demands.specs.laws.Paths.{once}
 
 module _ (l t s : List ℕ) where
@@ -50,6 +52,10 @@ module _ (l t s : List ℕ) where
     -- Demand 2: with an allowance of the list's tests the walk is done, and a filter is sure exactly where it is in the match set.
     pub demand-2 : (a : ℕ) → testsIn fs ≤ a → (w a .ended ≡ 1) × ((i : ℕ) → member i (w a .sure) ≡ matches fs (field f p) i)
     demand-2 a enough = (all-done l t s built f p legal a enough, all-matches l t s built f p legal a enough)
+
+    -- Change request P1: then the scanner, which has no table, names the same set.
+    pub scanner-agrees : (a : ℕ) → testsIn fs ≤ a → scanned l f p ≡ Matched (w a .sure)
+    scanner-agrees = all-scanned l t s built f p legal
 
     -- Demand 3: whatever the allowance, end, sets and count are those of the state that the residue rules reach by that many questions at most.
     pub demand-3-exact : (a : ℕ) → w a ≡ shownAt fs (run fs (field f p) a (start fs)) (askedIn fs (field f p) a (start fs))

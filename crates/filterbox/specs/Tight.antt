@@ -5,10 +5,12 @@ use mathlib.Core.Path.{_≡_, sym, ap, ap₂, _∙_}
 use mathlib.Core.List.{List}
 use Rattle.slots.specs.Words.{slotWords}
 use Rattle.matcher.specs.Walk as W
+use Rattle.scanner.specs.Scan as S
 use Rattle.builder.specs.Outcome as B
-use Rattle.filterbox.specs.Shown.{classified, Compiled}
+use Rattle.filterbox.specs.Shown.{classified, scanShown, Compiled}
 use Rattle.filterbox.specs.declared.FilterboxAnswer.{FilterboxAnswer}
 use Rattle.filterbox.specs.declared.FilterboxBuilt.{FilterboxBuilt}
+use Rattle.filterbox.specs.declared.FilterboxScanned.{FilterboxScanned}
 
 -- filterbox_build: both numbers, and each word of the lent memory afterwards.
 pub filterbox-build-tight :
@@ -25,6 +27,10 @@ structOf w = record { ended = w .ended; refusal = w .refusal; sure = w .sure; ou
 -- filterbox_classify: the five numbers; it writes nothing.
 pub filterbox-classify-tight : (w : W.Shown) (a b : FilterboxAnswer) → classified a ≡ w → classified b ≡ w → a ≡ b
 filterbox-classify-tight w a b x y = ap structOf (x ∙ sym y)
+
+-- filterbox_scan: the three numbers; it writes nothing.
+pub filterbox-scan-tight : (n : S.Numbers) (a b : FilterboxScanned) → scanShown a ≡ n → scanShown b ≡ n → a ≡ b
+filterbox-scan-tight n a b x y = ap (λ (m : S.Numbers). record { refusal = m .refusal; filter = m .filter; set = m .set }) (x ∙ sym y)
 
 -- filterbox_scratch_words.
 pub filterbox-scratch-words-tight : (a b : ℕ) → a ≡ slotWords → b ≡ slotWords → a ≡ b

@@ -5,10 +5,12 @@ ghost use Rattle.builder.specs.Outcome.{outcome};
 ghost use Rattle.builder.specs.Outcome.{shown as B·shown};
 ghost use Rattle.matcher.specs.Walk.{walk};
 ghost use Rattle.matcher.specs.Walk.{shown as W·shown};
-ghost use Rattle.filterbox.specs.Shown.{Compiled, classified};
+ghost use Rattle.scanner.specs.Scan.{numbersOf, scanned};
+ghost use Rattle.filterbox.specs.Shown.{Compiled, classified, scanShown};
 ghost use Rattle.filterbox.specs.inner.Numbers.{Numbers};
 use builder::Built;
 use matcher::Answer;
+use scanner::Scanned;
 
 // The words of a slot, as a C caller gets them.
 const SCRATCH_WORDS: u32 = slots::SLOT_WORDS as u32;
@@ -105,4 +107,37 @@ pub extern "C" fn filterbox_classify(
     ensures { λ r. ⌜ classified r ≡ walk (now (frame .entry)) port (now (table .entry)) states allowance ⌝ }
 {
     answer_of(matcher::classify(frame, port, table, states, allowance))
+}
+
+// The refusal's number or 0, the filter's number for refusals 1 to 9, and the match set, which is empty where refused.
+#[repr(C)]
+pub struct FilterboxScanned {
+    pub refusal: u32,
+    pub filter: u32,
+    pub set: u32,
+}
+
+fn scanned_of(answer: Scanned) -> FilterboxScanned
+    ensures { λ r. ⌜ scanShown r ≡ numbersOf answer ⌝ }
+{
+    match answer {
+        Scanned::Matched(set) => FilterboxScanned {
+            refusal: 0,
+            filter: 0,
+            set,
+        },
+        Scanned::Refused(number, filter) => FilterboxScanned {
+            refusal: number,
+            filter,
+            set: 0,
+        },
+    }
+}
+
+// Asks each filter of a list in turn of a frame, which came in at a box port. No table is needed, and nothing is written.
+#[no_mangle]
+pub extern "C" fn filterbox_scan(list: &[u32], frame: &[u8], port: u8) -> FilterboxScanned
+    ensures { λ r. ⌜ scanShown r ≡ numbersOf (scanned (now (list .entry)) (now (frame .entry)) port) ⌝ }
+{
+    scanned_of(scanner::scan(list, frame, port))
 }

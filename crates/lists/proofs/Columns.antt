@@ -12,22 +12,17 @@ use native.Mathlib.Nat.{add-zero}
 use native.Mathlib.Numerals.{add-one}
 use native.Mathlib.Omega.{arith}
 use lib.Dec.{ltb}
-use lib.ListN.{length, getD, take, drop, set, length-drop, length-set, drop-of-length-le, List·getD-map}
-use lib.Seq.{getD-drop, getD-take, drop-drop, take-suc-set, append-snoc}
+use lib.ListN.{length, getD, take, drop, set, length-drop, length-set, drop-of-length-le}
+use lib.Seq.{getD-drop, drop-drop, take-suc-set, append-snoc}
 use borrow.Author.Tests.{ltb-true, ltb-false}
 use Rattle.residue.specs.laws.Choice.{first, second}
 use Rattle.sets.specs.Sets.{setOf, tally}
 use Rattle.sets.specs.laws.Members.{tally-ext, tally-more}
 use Rattle.lists.specs.Filters.{Filter, maxFilters, filterWords, filterOf, filtersFrom, filtersOf}
 use Rattle.lists.specs.laws.Walking.{filters-step, filters-none}
-use Rattle.lists.specs.Ranks.{noFilter, above, rankSet, rankSets}
+use Rattle.lists.specs.Ranks.{above, rankSet, rankSets}
 use Rattle.lists.specs.inner.Columns.{aboveBy, rankSetBy, Heads}
-
-abbrev pub groupIn : Filter → ℕ
-groupIn f = f .group
-
-abbrev pub levelIn : Filter → ℕ
-levelIn f = f .level
+use Rattle.lists.specs.laws.Columns.{groupIn, levelIn, above-agrees}
 
 -- The place behind the filter at a place.
 abbrev behind : List ℕ → ℕ → ℕ
@@ -105,20 +100,6 @@ partway-end ws gs ls at n e r =
       groups = sym (append-nil (take n gs)) ∙ rw z at (r .groups);
       levels = sym (append-nil (take n ls)) ∙ rw z at (r .levels);
     }
-
--- A column holds its filters' groups or levels.
-column-at : (p : Filter → ℕ) (fs : List Filter) (n : ℕ) (gs : List ℕ) → take n gs ≡ map p fs → (j : ℕ) → j < n → getD gs j (p noFilter) ≡ p (getD fs j noFilter)
-column-at p fs n gs e j l = sym (getD-take n gs j (p noFilter) l) ∙ ap (λ (xs : List ℕ). getD xs j (p noFilter)) e ∙ List·getD-map p fs j noFilter
-
-above-agrees : (fs : List Filter) (n : ℕ) (gs ls : List ℕ) → Heads fs n gs ls → (j i : ℕ) → j < n → i < n → aboveBy gs ls j i ≡ above fs j i
-unfolding aboveBy above
-above-agrees fs n gs ls h j i a b =
-    rw (
-      column-at groupIn fs n gs (h .groups) j a,
-      column-at levelIn fs n ls (h .levels) j a,
-      column-at groupIn fs n gs (h .groups) i b,
-      column-at levelIn fs n ls (h .levels) i b,
-    )
 
 rank-agrees : (fs : List Filter) (n : ℕ) (gs ls : List ℕ) → Heads fs n gs ls → (i : ℕ) → rankSetBy gs ls n i ≡ rankSet fs i
 unfolding rankSetBy rankSet

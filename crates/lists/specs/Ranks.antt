@@ -4,6 +4,7 @@
 --   rankSets fs        one for each number that a filter can have
 --   fires fs r i       filter i's tests all hold, where field n reads r n; false beyond the list
 --   matches fs r i     filter i is in the match set
+--   matchSet fs r      the match set as a set
 use Prim.Native.Nat.{ℕ}
 use mathlib.Core.Bool.{Bool, true, cond, not, _&&_, _||_}
 use mathlib.Core.List.{List, [], _∷_}
@@ -48,3 +49,6 @@ fires fs r i = ltb i (length fs) && allHold r (testsOf fs i)
 
 unfoldable pub matches : List Filter → (ℕ → Reading) → ℕ → Bool
 matches fs r i = fires fs r i && not (some (length fs) (λ j. above fs j i && fires fs r j))
+
+unfoldable pub matchSet : List Filter → (ℕ → Reading) → ℕ
+matchSet fs r = setOf (tally (length fs) (λ i. matches fs r i))

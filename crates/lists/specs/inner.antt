@@ -1,3 +1,2 @@
 pub mod Well
 pub mod Columns
-pub mod Matches

@@ -3,4 +3,5 @@ pub mod Items
 pub mod Walking
 pub mod Accepted
 pub mod Ranking
+pub mod Columns
 pub mod Topmost

@@ -7,7 +7,7 @@ ghost use lib.ListN.{length, getD, drop};
 ghost use Rattle.sets.specs.Sets.{setOf, tally};
 ghost use Rattle.lists.specs.Filters.{maxFilters, headWords, testWords, countWord, testOf, itemOf, filtersOf};
 ghost use Rattle.lists.specs.Refusals.{masked, testFault, wordsFault, testsFault, filterFault, listed};
-ghost use Rattle.lists.specs.Ranks.{rankSets};
+ghost use Rattle.lists.specs.Ranks.{outranks, rankSets};
 ghost use Rattle.lists.specs.inner.Columns.{Heads, aboveBy, rankSetBy};
 use residue::Test;
 use sets::Set;
@@ -217,7 +217,7 @@ pub fn check(list: &[u32]) -> Listed
 }
 
 // Writes the groups and levels of the list's filters, and says how many there are.
-fn heads(list: &[u32], groups: &mut [u32], levels: &mut [u32]) -> usize
+pub fn heads(list: &[u32], groups: &mut [u32], levels: &mut [u32]) -> usize
     requires { ⌜ (length (now groups) ≡ maxFilters) × (length (now levels) ≡ maxFilters) ⌝ }
     ensures { λ r. ⌜ Heads (filtersOf (now (list .entry))) r (now (groups .exit)) (now (levels .exit)) ⌝ }
 {
@@ -233,8 +233,8 @@ fn heads(list: &[u32], groups: &mut [u32], levels: &mut [u32]) -> usize
 }
 
 // Whether filter j ranks above filter i.
-fn ranks_above(groups: &[u32], levels: &[u32], j: usize, i: usize) -> bool
-    ensures { λ r. ⌜ r ≡ aboveBy (now (groups .entry)) (now (levels .entry)) j i ⌝ }
+pub fn ranks_above(groups: &[u32], levels: &[u32], j: usize, i: usize) -> bool
+    ensures { λ r. ⌜ r ≡ outranks (getD (now (groups .entry)) j 0) (getD (now (levels .entry)) j 0) j (getD (now (groups .entry)) i 0) (getD (now (levels .entry)) i 0) i ⌝ }
 {
     let upper = word_at(levels, j);
     let lower = word_at(levels, i);

@@ -22,6 +22,15 @@ pub struct Answer {
     pub asked: u32,
 }
 
+/// What scanning answers.
+#[repr(C)]
+#[derive(Clone, Copy, PartialEq, Eq, Debug)]
+pub struct Scanned {
+    pub refusal: u32,
+    pub filter: u32,
+    pub set: u32,
+}
+
 /// Whether this program has the library's code in it; without it a call panics.
 pub const LINKED: bool = cfg!(linked);
 
@@ -60,6 +69,11 @@ calls! {
         table: *const u32, table_len: usize, states: u32, allowance: u32
     ) -> Answer;
 
+    fn filterbox_scan(
+        list: *const u32, list_len: usize,
+        frame: *const u8, frame_len: usize, port: u8
+    ) -> Scanned;
+
     fn filterbox_scratch_words() -> u32;
 }
 
@@ -94,6 +108,13 @@ pub fn classify(frame: &[u8], port: u8, table: &[u32], states: u32, allowance: u
             allowance,
         )
     }
+}
+
+/// Asks each filter of a list in turn.
+#[inline(always)]
+pub fn scan(list: &[u32], frame: &[u8], port: u8) -> Scanned {
+    // SAFETY: as above; the call writes nothing.
+    unsafe { filterbox_scan(list.as_ptr(), list.len(), frame.as_ptr(), frame.len(), port) }
 }
 
 /// The scratch words that a slot takes.

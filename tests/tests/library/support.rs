@@ -6,7 +6,8 @@ use filterbox_tests::demands::{self, describe};
 use filterbox_tests::frames::Frame;
 use filterbox_tests::library::library;
 use filterbox_tests::rules::{words, Filter};
-use filterbox_tests::walker::{self, Answer};
+use filterbox_tests::scanner::{self, Scanned};
+use filterbox_tests::walker::{self, Answer, MOST_FRAME};
 
 /// The words on either side of what is lent.
 const MARGIN: usize = 40;
@@ -83,6 +84,13 @@ pub fn build(
             panic!("{name} {text}\nanswer {built:?}\n{}", case());
         }
     }
+    for long in [false, true] {
+        let frame = vec![0; if long { MOST_FRAME + 1 } else { 0 }];
+        let scanned = library().scan(list, &frame, 0);
+        let should =
+            scanner::refused(should, long).unwrap_or(Scanned { refusal: 0, filter: 0, ..scanned });
+        assert!(scanned == should, "scanned {scanned:?}, should be {should:?}\n{}", case());
+    }
     assert!(given == list, "the list was changed\n{}", case());
     note_build(built, coverage);
     Outcome { built, table: table.lend().to_vec() }
@@ -134,7 +142,7 @@ pub fn classify_noted(
     answer
 }
 
-/// All that must be so of a frame's walk through a built table.
+/// All that must be so of a frame's walk through a built table, and of its scan by the list.
 pub fn check_frame(filters: &[Filter], frame: &Frame, built: &Outcome, coverage: &mut Coverage) {
     let states = built.states();
     let checked = demands::check(filters, frame, coverage, |allowance| {
@@ -148,4 +156,12 @@ pub fn check_frame(filters: &[Filter], frame: &Frame, built: &Outcome, coverage:
         answer
     });
     checked.unwrap_or_else(|text| panic!("{text}"));
+    let list = words(filters);
+    let scanned = library().scan(&list, &frame.bytes, frame.port);
+    let should = scanner::scan(filters, frame);
+    assert!(
+        scanned == should,
+        "scanned {scanned:?}, should be {should:?}\n{}",
+        describe(&list, frame)
+    );
 }

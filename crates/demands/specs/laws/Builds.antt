@@ -20,6 +20,7 @@ use Rattle.builder.specs.Outcome.{Left, scratchWords, refused, noRoom, placed, 
 use Rattle.lists.specs.laws.Faults.{Faulty, listed-faulty}
 
 pub record Success (l t s : List ℕ) : Type 0 where
+  pub listing : (n : ℕ) × (k : ℕ) × (listed l ≡ L.Accepted n k)
   pub well : wellFilters (filtersOf l) ≡ true
   pub fits : length (statesOf (filtersOf l)) ≤ slotsOf t
   pub left : outcome l t s ≡ placed (filtersOf l) t s
@@ -67,7 +68,7 @@ module _ (l t s : List ℕ) where
       go (L.Refused r i) p some e = absurd (omega arith)
       go (L.Accepted n k) p some e =
           let a = accepted-built (filtersOf l) t s e in
-          record { well = accepted-well l n k p; fits = a .0; left = ap (λ (c : Listed). outcomeBy c l t s) p ∙ a .1 }
+          record { listing = (n, k, p); well = accepted-well l n k p; fits = a .0; left = ap (λ (c : Listed). outcomeBy c l t s) p ∙ a .1 }
 
   module _ (n k : ℕ) (e : listed l ≡ L.Accepted n k) (enough : scratchWords t ≤ length s) where
     accepted-outcome : outcome l t s ≡ accepted (filtersOf l) t s

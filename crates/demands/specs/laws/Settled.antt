@@ -3,7 +3,7 @@
 use Prim.Native.Nat.{ℕ, _≤_, _<_, _/_}
 use native.Mathlib.Omega.{arith}
 use native.Mathlib.Nat.{min-le-right}
-use mathlib.Core.Path.{_≡_}
+use mathlib.Core.Path.{_≡_, sym, ap, _∙_}
 use mathlib.Core.Logic.{_⊎_}
 use mathlib.Core.Bool.{true, false, not, _&&_}
 use mathlib.Core.List.{List}
@@ -21,10 +21,13 @@ use Rattle.states.specs.laws.Keeps.{question-left}
 use Rattle.states.specs.laws.Paths.{after}
 use Rattle.tables.specs.Tables.{recordWords, maxSlots, slotsOf}
 use Rattle.machine.specs.Box.{recordsIn}
+use Rattle.scanner.specs.Scan.{scanned}
+use Rattle.scanner.specs.laws.Scans.{scanned-set}
+use Rattle.scanner.specs.declared.Scanned.the-variants.{Matched}
 use Rattle.builder.specs.Outcome.{placed, outcome}
 use Rattle.labels.specs.Labels.{shownAt, Legal}
 use Rattle.labels.specs.inner.Labelled.{LabelledBy}
-use Rattle.labels.specs.laws.Truths.{Shows, open-member, legal-widths, labelled-shows, labelled-keeps, picked-run, shows-done, shows-matches, shows-settled, shows-sure, shows-out, shows-asked}
+use Rattle.labels.specs.laws.Truths.{Shows, open-member, legal-widths, labelled-shows, labelled-keeps, picked-run, shows-done, shows-matches, shows-set, shows-settled, shows-sure, shows-out, shows-asked}
 use Rattle.demands.specs.laws.Labelled.{built-labelled}
 use Rattle.demands.specs.laws.Builds.{Success, build-success}
 use Rattle.demands.specs.Settled.{walked}
@@ -62,6 +65,11 @@ module _ (l t s : List ℕ) (built : outcome l t s .answer .refusal ≡ 0) where
 
     pub all-matches : (a : ℕ) → testsIn fs ≤ a → (i : ℕ) → member i (walked l t s f p a .sure) ≡ matches fs r i
     all-matches a = shows-matches question-left (success .well) widths (shows a)
+
+    pub all-scanned : (a : ℕ) → testsIn fs ≤ a → scanned l f p ≡ Matched (walked l t s f p a .sure)
+    all-scanned a enough =
+        scanned-set l f p (success .listing .0) (success .listing .1) (success .listing .2) (legal .short) ∙
+        ap Matched (sym (shows-set question-left (success .well) widths (shows a) enough))
 
     pub sure-so : (a i : ℕ) → member i (walked l t s f p a .sure) ≡ true → matches fs r i ≡ true
     sure-so a = shows-sure question-left (success .well) widths (shows a)

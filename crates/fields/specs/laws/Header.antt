@@ -1,7 +1,7 @@
 -- A header that was read once answers for every field what the definition answers.
 use Prim.Native.Nat.{ℕ, _^_, _<_}
 use native.Mathlib.Omega.{arith}
-use mathlib.Core.Path.{_≡_, refl, sym}
+use mathlib.Core.Path.{_≡_, refl, sym, fun-ext}
 use mathlib.Core.Bool.{Bool, true, false, cond, or-true, or-false}
 use mathlib.Core.List.{List, [], _∷_}
 use lib.Bits.{bitOr}
@@ -16,7 +16,7 @@ use Rattle.sets.specs.laws.Members.{member-empty, member-or, member-one}
 use Rattle.fields.specs.Widths.{fieldCount}
 use Rattle.fields.specs.Puts.{Put, putAll}
 use Rattle.fields.specs.Fields.{puts, readings, field}
-use Rattle.fields.specs.Header.{noted, filled, presentSet, readingAt}
+use Rattle.fields.specs.Header.{Header, noted, filled, presentSet, readingAt}
 
 -- A set and k words say what k readings say, each field by its number.
 record Says (k s : ℕ) (vs : List ℕ) (rs : List Reading) : Type 0 where
@@ -80,3 +80,12 @@ module _ (f : List ℕ) (p : ℕ) (old : List ℕ) (long : length old ≡ fieldC
 
   pub header-agrees : readingAt (presentSet f p) (filled (puts f p) old) n ≡ field f p n
   header-agrees = by-number (ltb n fieldCount) refl
+
+-- The same of all fields at once.
+pub read-once :
+    {f : List ℕ} {p : ℕ} {old new : List ℕ} {s : ℕ} →
+    length old ≡ fieldCount →
+    Header f p old new s →
+    readingAt s new ≡ field f p
+read-once {f} {p} {old} {new} {s} long h =
+    fun-ext (λ (n : ℕ). rw (h .set, h .words) (header-agrees f p old long n))

@@ -15,10 +15,11 @@ use Rattle.residue.specs.declared.Reading.{Reading}
 use Rattle.fields.specs.Ethernet.{maxFrame}
 use Rattle.fields.specs.Fields.{field}
 use Rattle.fields.specs.laws.Values.{value-in-width}
-use Rattle.sets.specs.Sets.{member}
+use Rattle.sets.specs.Sets.{setOf, member}
+use Rattle.sets.specs.laws.Members.{tally-ext}
 use Rattle.lists.specs.inner.Well.{wellFilters}
 use Rattle.lists.specs.Filters.{Item, Filter, testsIn}
-use Rattle.lists.specs.Ranks.{fires, matches}
+use Rattle.lists.specs.Ranks.{fires, matches, matchSet}
 use Rattle.states.specs.States.{State, start, Question, nothing, ask, questionOf, standing, isOut, sure, isOpen, sureSet, outSet}
 use Rattle.states.specs.Runs.{run, askedIn}
 use Rattle.states.specs.laws.Choices.{path-of, path-free}
@@ -121,6 +122,13 @@ module _ {May : Item → State → Type 0} (chosen : (q : Item) (s : State) → 
 
   pub shows-matches : testsIn fs ≤ a → (i : ℕ) → member i (w .sure) ≡ matches fs r i
   shows-matches enough i = sures i ∙ ap (λ (b : Bool). ltb i (length fs) && b) (truth .settled (final enough) i) ∙ matches-within fs r i
+
+  pub shows-set : testsIn fs ≤ a → w .sure ≡ matchSet fs r
+  unfolding matchSet sureSet
+  shows-set enough =
+      rw (x .shown)
+      (shown-words fs (x .state) (x .count) .0 ∙
+      ap setOf (tally-ext (length fs) (λ i. sure fs (x .state) i) (λ i. matches fs r i) (λ i _. truth .settled (final enough) i)))
 
   pub shows-settled : testsIn fs ≤ a → (i : ℕ) → i < length fs → (member i (w .sure) ≡ true) ⊎ (member i (w .out) ≡ true)
   shows-settled enough i inside =

@@ -44,6 +44,7 @@ loop-less : tie.Need-loop-less Inv-loop μ-loop
 loop-less c = search needs
 
 loop-again : tie.Need-loop-again Inv-loop μ-loop
+unfolding aboveBy
 loop-again c =
     let b = c .before .before .before in
     let s = b .before .before .before in

@@ -1,7 +1,6 @@
 -- `lists::ranks_above` meets its contract: it is the definition, at the words read.
 -- Assumes nothing.
 use Rattle.lists.specs.Ranks.{outranks}
-use Rattle.lists.specs.inner.Columns.{aboveBy}
 use borrow.Author.Needs.{needs}
 use Rattle.lists.proofs.ranks_above.Statement.{statement}
 use Rattle.lists.proofs.ranks_above.Tie as tie
@@ -19,7 +18,7 @@ word-at-requires-4 : tie.Need-word-at-requires-4
 word-at-requires-4 c κs = search needs
 
 returns : tie.Need-returns
-unfolding aboveBy outranks
+unfolding outranks
 returns c =
     rw (
       c .before .before .before .word-at .ensures,

@@ -17,8 +17,7 @@ use Rattle.residue.specs.declared.Reading.{Reading}
 use Rattle.sets.specs.Sets.{some, member}
 use Rattle.sets.specs.laws.Members.{some-true, some-none, member-tally}
 use Rattle.lists.specs.Filters.{Filter}
-use Rattle.lists.specs.Ranks.{testsOf, above, allHold, fires, matches}
-use Rattle.lists.specs.inner.Matches.{matchSet}
+use Rattle.lists.specs.Ranks.{testsOf, above, allHold, fires, matches, matchSet}
 use Rattle.lists.specs.laws.Ranking.{above-irreflexive, above-transitive}
 
 pub record Top (fs : List Filter) (r : ℕ → Reading) (m i k : ℕ) : Type 0 where

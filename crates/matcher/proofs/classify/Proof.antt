@@ -5,7 +5,7 @@ use mathlib.Core.Path.{refl, sym, _∙_}
 use borrow.Author.Needs.{needs}
 use borrow.Author.Tests.{lt-ltb, le-ltb}
 use Rattle.matcher.specs.laws.Walks.{walk-long, walk-none, walk-misfit, walk-fits}
-use Rattle.matcher.proofs.Headers.{read-once}
+use Rattle.fields.specs.laws.Header.{read-once}
 use Rattle.matcher.proofs.classify.Statement.{statement}
 use Rattle.matcher.proofs.classify.Tie as tie
 

@@ -4,7 +4,7 @@
 -- A set and its list: member-empty, member-setOf, setOf-bound, set-snoc.
 -- Operations: member-or, member-one, and-sets, minus-sets; empty sets: zero-sets.
 -- Tallies: length-tally, getD-tally, getD-tally-beyond, member-tally, tally-ext, each-tally, and-tally-zero.
--- Some: some-true, some-where.
+-- Some: some-true, some-where, some-none, some-ext.
 -- Assumes nothing.
 use Prim.Native.Nat.{ℕ, zero, suc, _+_, _-_, _*_, _/_, _%_, _^_, _≤_, _<_, min, max}
 use mathlib.Core.Path.{_≡_, refl, sym, ap, ap₂, _∙_}
@@ -267,6 +267,11 @@ pub some-none : (n : ℕ) (p : ℕ → Bool) → ((i : ℕ) → i < n → p i �
 unfolding some
 some-none zero p h = refl
 some-none (suc n) p h = ap₂ (λ (a b : Bool). a || b) (some-none n p (λ i l. h i (omega arith))) (h n (omega arith))
+
+pub some-ext : (n : ℕ) (p q : ℕ → Bool) → ((i : ℕ) → i < n → p i ≡ q i) → some n p ≡ some n q
+unfolding some
+some-ext zero p q h = refl
+some-ext (suc n) p q h = ap₂ (λ (a b : Bool). a || b) (some-ext n p q (λ i l. h i (omega arith))) (h n (omega arith))
 
 -- ---- tallies as sets
 

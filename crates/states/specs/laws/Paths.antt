@@ -13,8 +13,7 @@ use Rattle.sets.specs.Sets.{setOf, member}
 use Rattle.sets.specs.laws.Members.{tally-ext, member-tally}
 use Rattle.lists.specs.inner.Well.{wellFilters}
 use Rattle.lists.specs.Filters.{Filter, testsIn}
-use Rattle.lists.specs.Ranks.{matches}
-use Rattle.lists.specs.inner.Matches.{matchSet}
+use Rattle.lists.specs.Ranks.{matches, matchSet}
 use Rattle.states.specs.States.{State, standing, isOut, start, nothing, questionOf, sure, isOpen, sureSet, outSet}
 use Rattle.states.specs.inner.Remaining.{remaining}
 use Rattle.states.specs.Runs.{run}
