@@ -474,8 +474,10 @@ pub fn read_header(frame: &[u8], port: u8) -> Header {
     header.values[5] = u32::from(ip[9]);
     header.values[6] = pair(ip, 12) << 16 | pair(ip, 14);
     header.values[7] = pair(ip, 16) << 16 | pair(ip, 18);
-    let part = &ip[length..total];
-    read_transport(&mut header, ip[9], part);
+    if header.values[3] & 0x1FFF == 0 {
+        let part = &ip[length..total];
+        read_transport(&mut header, ip[9], part);
+    }
     header
 }
 

@@ -1,6 +1,7 @@
 //! What a run has met. A number that stays zero means that the run did not try what it says.
 
-use crate::fields::{FIELDS, NAMES};
+use crate::fields::{later_fragment, read, FIELDS, ICMP, NAMES, TCP, UDP};
+use crate::frames::{Frame, MORE_FRAGMENTS};
 use crate::residue::{Outcome, OUTCOMES};
 use crate::rules::Test;
 use crate::walker::Answer;
@@ -8,6 +9,7 @@ use crate::walker::Answer;
 /// The refusal numbers of the library's calls.
 pub const REFUSALS: usize = 13;
 const KINDS: [&str; 4] = ["equal", "differs", "at most", "at least"];
+const PROTOCOLS: [u32; 3] = [ICMP, TCP, UDP];
 const ENDED: [&str; 3] = ["refused", "done", "stopped"];
 
 #[derive(Default)]
@@ -21,9 +23,24 @@ pub struct Coverage {
     kinds: [[u64; 3]; 4],
     fields: [[u64; 3]; FIELDS],
     ended: [u64; 3],
+    /// Fragments with offset 0 and more to come, and those with another offset, by protocol.
+    first_fragments: [u64; 3],
+    pub later_fragments: [u64; 3],
 }
 
 impl Coverage {
+    pub fn frame(&mut self, frame: &Frame) {
+        self.frames += 1;
+        let readings = read(&frame.bytes, frame.port);
+        let (Some(place), Some(protocol)) = (readings[3], readings[5]) else { return };
+        let Some(i) = PROTOCOLS.iter().position(|&p| p == protocol) else { return };
+        if later_fragment(&readings) {
+            self.later_fragments[i] += 1;
+        } else if place & MORE_FRAGMENTS != 0 {
+            self.first_fragments[i] += 1;
+        }
+    }
+
     pub fn refusal(&mut self, refusal: u32) {
         self.refusals[refusal as usize] += 1;
     }
@@ -70,6 +87,8 @@ impl Coverage {
             let never: &[usize] = if i == 13 { &[2] } else { &[] };
             line(format!("field {i}, {name}"), &self.fields[i], never);
         }
+        line("first fragments: ICMP, TCP, UDP".to_string(), &self.first_fragments, &[]);
+        line("later fragments: ICMP, TCP, UDP".to_string(), &self.later_fragments, &[]);
         (lines.join("\n"), missing)
     }
 

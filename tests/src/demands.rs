@@ -78,7 +78,7 @@ pub fn check(
     let points = path(filters, &readings);
     let tell = |text: String| format!("{text}\n{}", describe(&words(filters), frame));
     check_path(filters, &points, matches).map_err(tell)?;
-    coverage.frames += 1;
+    coverage.frame(frame);
     for (question, outcome) in points.iter().filter_map(|point| point.asked) {
         coverage.question(&question, outcome);
     }

@@ -1,4 +1,4 @@
-//! What a frame's header fields are (document 01, "Fields").
+//! What a frame's header fields are (document 01, "Fields", mended by document 02, P2).
 
 /// How many fields there are.
 pub const FIELDS: usize = 14;
@@ -35,6 +35,8 @@ pub const LEAST_ETHERTYPE: u32 = 1536;
 pub const ICMP: u32 = 1;
 pub const TCP: u32 = 6;
 pub const UDP: u32 = 17;
+/// The bits of field 3 that are the fragment's offset; the three above them are flags.
+pub const OFFSET: u32 = 0x1FFF;
 
 /// A field's value, or none where the field is absent.
 pub type Readings = [Option<u32>; FIELDS];
@@ -68,8 +70,11 @@ pub fn read(frame: &[u8], port: u8) -> Readings {
     if ethertype == IPV4 {
         if let Some((header, total)) = ip_lengths(frame) {
             read_ip(&frame[ETHERNET..], &mut readings);
-            let transport = &frame[ETHERNET + header..ETHERNET + total];
-            read_transport(transport, &mut readings);
+            // A fragment from the middle or the end has no transport header.
+            if !later_fragment(&readings) {
+                let transport = &frame[ETHERNET + header..ETHERNET + total];
+                read_transport(transport, &mut readings);
+            }
         }
     }
     readings
@@ -96,6 +101,11 @@ fn read_ip(ip: &[u8], readings: &mut Readings) {
     readings[5] = Some(number(ip, 9, 1));
     readings[6] = Some(number(ip, 12, 4));
     readings[7] = Some(number(ip, 16, 4));
+}
+
+/// Whether the fields are those of a fragment that does not begin its datagram.
+pub fn later_fragment(readings: &Readings) -> bool {
+    readings[3].is_some_and(|x| x & OFFSET != 0)
 }
 
 fn read_transport(part: &[u8], readings: &mut Readings) {

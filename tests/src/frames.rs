@@ -1,9 +1,13 @@
 //! Frames made for a list: they satisfy its tests, or nearly, or are short or odd.
 
-use crate::fields::{full, ETHERNET, FIELDS, ICMP, IPV4, IP_HEADER, TCP, UDP};
+use crate::fields::{full, ETHERNET, FIELDS, ICMP, IPV4, IP_HEADER, OFFSET, TCP, UDP};
 use crate::random::Random;
 use crate::rules::{Filter, Test, AT_LEAST, AT_MOST, DIFFERS, EQUAL};
 use crate::walker::MOST_FRAME;
+
+/// Flags of field 3, above its offset.
+pub const MORE_FRAGMENTS: u32 = 0x2000;
+pub const DONT_FRAGMENT: u32 = 0x4000;
 
 /// A frame and the port it came in at.
 #[derive(Clone, PartialEq, Eq, Debug)]
@@ -46,7 +50,8 @@ fn put(bytes: &mut [u8], at: usize, count: usize, number: u32) {
     }
 }
 
-/// A frame with these fields. What does not fit is left away: no wish is checked here.
+/// A frame with these fields. What does not fit is left away: no wish is checked here. Without a wish
+/// for field 3 the packet is whole, so that its transport part can be read.
 pub fn compose(wishes: &Wishes, layout: &Layout) -> Frame {
     let header = 4 * usize::from(layout.header);
     let protocol = wishes[5].unwrap_or_else(|| protocol_for(wishes));
@@ -56,8 +61,9 @@ pub fn compose(wishes: &Wishes, layout: &Layout) -> Frame {
     put(&mut bytes, 12, 2, wishes[0].unwrap_or(IPV4));
     put(&mut bytes, ETHERNET, 1, u32::from(layout.version << 4 | layout.header & 0x0F));
     put(&mut bytes, ETHERNET + 2, 2, wishes[2].unwrap_or(total as u32));
+    put(&mut bytes, ETHERNET + 6, 2, wishes[3].unwrap_or(0));
     put(&mut bytes, ETHERNET + 9, 1, protocol);
-    for (field, at, count) in [(1, 1, 1), (3, 6, 2), (4, 8, 1), (6, 12, 4), (7, 16, 4)] {
+    for (field, at, count) in [(1, 1, 1), (4, 8, 1), (6, 12, 4), (7, 16, 4)] {
         if let Some(wish) = wishes[field] {
             put(&mut bytes, ETHERNET + at, count, wish);
         }
@@ -150,6 +156,25 @@ fn make_room(random: &mut Random, wishes: &mut Wishes) {
     if wishes[5].is_none() {
         wishes[5] = Some(random.pick(&[ICMP, TCP, UDP, 2]));
     }
+    let place = place_of_fragment(random);
+    wishes[3] = match wishes[3] {
+        None => Some(place),
+        // What was wished of the offset leaves no transport fields: half of the frames have those.
+        Some(x) if transport && random.once_in(2) => Some(x & !OFFSET | place & OFFSET),
+        wish => wish,
+    };
+}
+
+/// Field 3 of a whole packet or a first fragment and, once in six, of a later one.
+fn place_of_fragment(random: &mut Random) -> u32 {
+    let flags = random.pick(&[0, DONT_FRAGMENT, MORE_FRAGMENTS, 0x8000, 0xE000]);
+    let offset = match random.below(18) {
+        0 => 1 << random.below(13),
+        1 => random.pick(&[1, OFFSET - 1, OFFSET]),
+        2 => random.word() & OFFSET,
+        _ => 0,
+    };
+    flags | offset
 }
 
 fn layout_for(random: &mut Random, wishes: &Wishes) -> Layout {
@@ -232,12 +257,13 @@ pub fn noise(random: &mut Random) -> Frame {
     Frame { bytes: (0..length).map(|_| random.byte()).collect(), port: random.byte() }
 }
 
-/// Frames at the edges of document 01's presence rules, each with what it is about.
+/// Frames at the edges of the documents' presence rules, each with what it is about.
 pub fn hand_made() -> Vec<(&'static str, Frame)> {
     let mut frames = Vec::new();
     ethernet_edges(&mut frames);
     ip_edges(&mut frames);
     transport_edges(&mut frames);
+    fragment_edges(&mut frames);
     frames
 }
 
@@ -311,6 +337,39 @@ fn transport_edges(frames: &mut Named) {
                 let padding = 20;
                 let layout = Layout { version: 4, header, transport, padding, filler };
                 frames.push(("transport part", compose(&wishes, &layout)));
+            }
+        }
+    }
+}
+
+/// A packet with this field 3, protocol and header length in words, and bytes behind the header that
+/// would make transport fields.
+pub fn fragment(place: u32, protocol: u32, header: u8) -> Frame {
+    let mut wishes = [None; FIELDS];
+    wishes[3] = Some(place);
+    wishes[5] = Some(protocol);
+    for (field, value) in [(8, 0x0803), (9, 0x238C), (10, 0x12), (11, 8), (12, 3)] {
+        wishes[field] = Some(value);
+    }
+    compose(&wishes, &Layout { header, filler: vec![1], ..Layout::plain(24) })
+}
+
+fn fragment_edges(frames: &mut Named) {
+    for (name, place) in [
+        ("not to be fragmented", DONT_FRAGMENT),
+        ("first fragment", MORE_FRAGMENTS),
+        ("all flags and offset 0", !OFFSET & 0xFFFF),
+        ("middle fragment", MORE_FRAGMENTS | 185),
+        ("middle fragment at offset 1", MORE_FRAGMENTS | 1),
+        ("middle fragment at offset 8,191", MORE_FRAGMENTS | OFFSET),
+        ("last fragment", 370),
+        ("last fragment at offset 1", 1),
+        ("last fragment at offset 8,191", OFFSET),
+        ("all flags and offset 8,191", 0xFFFF),
+    ] {
+        for protocol in [ICMP, TCP, UDP] {
+            for header in [5, 7, 15] {
+                frames.push((name, fragment(place, protocol, header)));
             }
         }
     }

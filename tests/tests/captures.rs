@@ -9,7 +9,7 @@ use filterbox_tests::builder::{records, RECORD_WORDS};
 use filterbox_tests::coverage::Coverage;
 use filterbox_tests::demands;
 use filterbox_tests::examples::{echo_in_one_group, test, ECHO};
-use filterbox_tests::fields::read;
+use filterbox_tests::fields::{later_fragment, read};
 use filterbox_tests::frames::Frame;
 use filterbox_tests::library::library;
 use filterbox_tests::lists::{list, style};
@@ -20,10 +20,15 @@ use filterbox_tests::runner::{Ended, Runner};
 use filterbox_tests::scanner::{filter_holds, match_set};
 use filterbox_tests::tools::{installed, made, root, run};
 
-/// The captures, with the frames in each and how many of them are echo requests as document 01 reads
-/// them: there a later fragment of one counts by its bytes, and none of ours begins with an 8.
-const CAPTURES: [(&str, usize, usize); 4] =
-    [("neighbours", 31, 2), ("icmp", 32, 14), ("tcp", 36, 0), ("udp", 10, 0)];
+/// The captures, with the frames in each, how many of them are echo requests, of which only the first
+/// fragment counts, and how many are later fragments.
+const CAPTURES: [(&str, usize, usize, usize); 5] = [
+    ("neighbours", 31, 2, 0),
+    ("icmp", 32, 14, 2),
+    ("tcp", 36, 0, 0),
+    ("udp", 10, 0, 0),
+    ("fragments", 25, 3, 16),
+];
 const RANDOM_LISTS: usize = 400;
 
 fn main() {
@@ -53,11 +58,13 @@ fn frames(name: &str) -> Vec<Frame> {
 
 fn known_frames() {
     let echo = read_list(&ECHO).expect("well-formed");
-    for (name, count, requests) in CAPTURES {
+    for (name, count, requests, later) in CAPTURES {
         let frames = frames(name);
         assert_eq!(frames.len(), count, "{name}");
         let matching = |frame: &&Frame| match_set(&echo, &read(&frame.bytes, 0)) & 1 == 1;
         assert_eq!(frames.iter().filter(matching).count(), requests, "{name}");
+        let behind = |frame: &&Frame| later_fragment(&read(&frame.bytes, 0));
+        assert_eq!(frames.iter().filter(behind).count(), later, "{name}");
     }
 }
 
@@ -98,16 +105,15 @@ fn replay(name: &str, coverage: &mut Coverage) {
     }
 }
 
-/// A libpcap term for the transport part, wherever the IP header ends. Written out, since libpcap's
-/// own names for ports and messages leave later fragments away and document 01 does not.
-fn transport(offset: usize, bytes: usize) -> String {
-    format!("ip[((ip[0] & 0xf) << 2) + {offset}:{bytes}]")
+/// A relation of bytes of the transport part in TCP or UDP.
+fn ports(relation: &str) -> String {
+    format!("tcp{relation} or udp{relation}")
 }
 
-/// Rules as tests of one filter and as an expression of libpcap.
+/// Rules as tests of one filter and as an expression of libpcap, whose `tcp`, `udp` and `icmp` with
+/// brackets find the transport part, and none in a later fragment.
 fn rules() -> Vec<(Vec<Test>, String)> {
     let tcp = test(EQUAL, 5, 255, 6);
-    let ports = "(ip[9] = 6 or ip[9] = 17)";
     let left = 0x0A4D_0001;
     let rule = |tests: &[Test], expression: String| (tests.to_vec(), expression);
     vec![
@@ -122,18 +128,14 @@ fn rules() -> Vec<(Vec<Test>, String)> {
         rule(&[test(EQUAL, 6, u32::MAX, left)], "ip src 10.77.0.1".into()),
         rule(&[test(EQUAL, 7, 0xFFFF_FF00, 0x0A4D_0000)], "ip dst net 10.77.0.0/24".into()),
         rule(&[test(DIFFERS, 7, u32::MAX, left)], "ip and not ip dst 10.77.0.1".into()),
-        rule(&[test(EQUAL, 9, 0xFFFF, 8080)], format!("{ports} and {} = 8080", transport(2, 2))),
-        rule(&[test(AT_MOST, 8, 0, 1023)], format!("{ports} and {} <= 1023", transport(0, 2))),
-        rule(&[test(DIFFERS, 9, 0xFFFF, 53)], format!("{ports} and {} != 53", transport(2, 2))),
-        rule(
-            &[tcp, test(EQUAL, 10, 0x12, 0x02)],
-            format!("ip[9] = 6 and {} & 0x12 = 2", transport(13, 1)),
-        ),
-        rule(&[test(EQUAL, 11, 255, 8)], format!("ip[9] = 1 and {} = 8", transport(0, 1))),
-        rule(
-            &[test(EQUAL, 11, 255, 3), test(EQUAL, 12, 255, 3)],
-            format!("ip[9] = 1 and {} = 0x0303", transport(0, 2)),
-        ),
+        rule(&[test(EQUAL, 9, 0xFFFF, 8080)], ports("[2:2] = 8080")),
+        rule(&[test(AT_MOST, 8, 0, 1023)], ports("[0:2] <= 1023")),
+        rule(&[test(DIFFERS, 9, 0xFFFF, 53)], ports("[2:2] != 53")),
+        rule(&[tcp, test(EQUAL, 10, 0x12, 0x02)], "tcp[13] & 0x12 = 2".into()),
+        rule(&[test(EQUAL, 11, 255, 8)], "icmp[0] = 8".into()),
+        rule(&[test(EQUAL, 11, 255, 3), test(EQUAL, 12, 255, 3)], "icmp[0:2] = 0x0303".into()),
+        rule(&[test(AT_LEAST, 11, 0, 0)], "icmp[0] >= 0".into()),
+        rule(&[test(DIFFERS, 3, 0x1FFF, 0)], "ip[6:2] & 0x1fff != 0".into()),
     ]
 }
 

@@ -11,8 +11,8 @@ use filterbox_tests::examples::{
     behind_impossible, deepest, echo_in_one_group, empty_filters, ends_of_the_range, one_bit_tests,
     residue_cases, test, LeftOver, ECHO, ECHO_RECORDS, WITHOUT_PLACES,
 };
-use filterbox_tests::fields::{full, greatest, read, Readings, FIELDS, TCP};
-use filterbox_tests::frames::{compose, echo_request, hand_made, towards, Frame, Layout};
+use filterbox_tests::fields::{full, greatest, read, Readings, FIELDS, ICMP, TCP, UDP};
+use filterbox_tests::frames::{compose, echo_request, fragment, hand_made, towards, Frame, Layout};
 use filterbox_tests::lists::{self, style};
 use filterbox_tests::program;
 use filterbox_tests::random::Random;
@@ -298,10 +298,12 @@ fn a_frame_has_the_fields_it_was_made_with() {
     for case in 0..5000 {
         let random = &mut Random::case(SEED, case);
         let mut wishes: [Option<u32>; FIELDS] = [None; FIELDS];
-        for field in [1, 3, 4, 6, 7, 8, 9, 10, 13] {
+        for field in [1, 4, 6, 7, 8, 9, 10, 13] {
             wishes[field] = Some(random.word() & full(field as u32));
         }
         wishes[5] = Some(TCP);
+        let offset = if random.once_in(3) { random.between(1, 8191) as u32 } else { 0 };
+        wishes[3] = Some((random.below(8) as u32) << 13 | offset);
         let header = random.between(5, 15) as u8;
         let transport = random.between(0, 40);
         let padding = random.below(30);
@@ -311,14 +313,48 @@ fn a_frame_has_the_fields_it_was_made_with() {
         let mut should = wishes;
         should[0] = Some(0x0800);
         should[2] = Some(4 * u32::from(header) + transport as u32);
-        if transport < 4 {
+        if transport < 4 || offset != 0 {
             should[8] = None;
             should[9] = None;
         }
-        if transport < 14 {
+        if transport < 14 || offset != 0 {
             should[10] = None;
         }
         assert_eq!(read(&frame.bytes, frame.port), should);
+    }
+}
+
+#[test]
+fn later_fragments_have_no_transport_fields() {
+    let ports = vec![Some(0x0803), Some(0x238C)];
+    let message = vec![Some(8), Some(3)];
+    for header in [5, 6, 15] {
+        for (place, first) in [
+            (0, true),
+            (0x2000, true),
+            (0x4000, true),
+            (0x8000, true),
+            (0xE000, true),
+            (1, false),
+            (0x1FFF, false),
+            (0x2001, false),
+            (0x3000, false),
+            (0x4100, false),
+            (0xFFFF, false),
+        ] {
+            for (protocol, fields, should) in
+                [(TCP, 8..=9, &ports), (UDP, 8..=9, &ports), (ICMP, 11..=12, &message)]
+            {
+                let seen = read(&fragment(place, protocol, header).bytes, 0);
+                assert_eq!(seen[3], Some(place));
+                assert_eq!(seen[5], Some(protocol));
+                if first {
+                    assert_eq!(&seen[fields], should);
+                } else {
+                    assert_eq!(seen[8..=12], [None; 5]);
+                }
+            }
+        }
     }
 }
 

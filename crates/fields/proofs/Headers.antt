@@ -1,18 +1,19 @@
 -- The puts of a frame by what it has, and a header from its puts.
 -- Assumes nothing.
-use Prim.Native.Nat.{ℕ}
+use Prim.Native.Nat.{ℕ, _%_}
 use native.Mathlib.Omega.{arith}
 use mathlib.Core.Path.{_≡_, refl, sym, _∙_}
 use mathlib.Core.Bool.{true, false, true≢false}
 use mathlib.Core.List.{List, [], _∷_, _++_}
 use borrow.Author.Tests.{le-leb}
+use lib.Dec.{eqb}
 use lib.ListN.{length}
 use Rattle.residue.specs.laws.Choice.{by-cond, never}
 use Rattle.residue.specs.declared.Reading.{Reading}
 use Rattle.residue.specs.declared.Reading.the-variants.{Absent, Value}
 use Rattle.fields.specs.declared.ipv4.Packet.{Packet}
 use Rattle.fields.specs.declared.ipv4.Packet.the-variants.{Nothing, Whole}
-use Rattle.fields.specs.Bytes.{part}
+use Rattle.fields.specs.Bytes.{two, part}
 use Rattle.fields.specs.Puts.{Put}
 use Rattle.fields.specs.Ethernet.{ipStart, etherType, ethernet}
 use Rattle.fields.specs.Ipv4.{internet, transportStart, transportEnd, transport}
@@ -51,7 +52,10 @@ packet-at f has =
     record {
       has = has;
       same = refl;
-      spans = record { whole = known .whole; order = omega arith; inside = known .inside };
+      spans =
+          by-cond (Spans f (transportStart f)) (eqb (two f 20 % 8192) 0)
+          (λ h. record { whole = known .whole; order = omega arith; inside = known .inside })
+          (λ h. record { whole = known .whole; order = omega arith; inside = omega arith });
     }
 
 pub is-packet : (f : List ℕ) {start end : ℕ} → packetIn f ≡ Whole start end → PacketAt f start end

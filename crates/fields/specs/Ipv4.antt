@@ -6,7 +6,7 @@
 --   transportStart, transportEnd   where the transport part begins and ends
 --   transport f                    the transport part
 use Prim.Native.Nat.{ℕ, _+_, _*_, _/_, _%_}
-use mathlib.Core.Bool.{Bool, _&&_}
+use mathlib.Core.Bool.{Bool, cond, _&&_}
 use mathlib.Core.List.{List, [], _∷_}
 use lib.Dec.{leb, eqb}
 use lib.ListN.{length}
@@ -48,8 +48,9 @@ internetPuts f =
 unfoldable pub transportStart : List ℕ → ℕ
 transportStart f = ipStart + headerLength f
 
+-- Only the fragment with offset 0 begins with the transport header; a later one has an empty transport part.
 unfoldable pub transportEnd : List ℕ → ℕ
-transportEnd f = ipStart + totalLength f
+transportEnd f = cond (eqb (two f (ipStart + 6) % 8192) 0) (ipStart + totalLength f) (transportStart f)
 
 unfoldable pub transport : List ℕ → List ℕ
 transport f = part f (transportStart f) (transportEnd f)

@@ -1,4 +1,5 @@
 pub mod Bytes
+pub mod Fragments
 pub mod Ipv4
 pub mod Header
 pub mod Values

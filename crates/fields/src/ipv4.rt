@@ -19,8 +19,10 @@ const IPV4: u32 = 0x0800;
 const LEAST_HEADER: usize = 20;
 
 const LEAST_FRAME: usize = IP_START + LEAST_HEADER;
-// Where the total length and the protocol stand.
+// Where the total length, the fragment's flags and offset, and the protocol stand.
 const TOTAL_AT: usize = IP_START + 2;
+
+const FRAGMENT_AT: usize = IP_START + 6;
 
 const PROTOCOL_AT: usize = IP_START + 9;
 // The fields of this header, by their numbers.
@@ -71,6 +73,10 @@ pub fn packet_in(frame: &[u8]) -> Packet
     if frame.len() < end {
         return Packet::Nothing;
     }
+    // Only the fragment with offset 0 begins with the transport header.
+    if two_at(frame, FRAGMENT_AT) % 8192 != 0 {
+        return Packet::Whole(start, start);
+    }
     Packet::Whole(start, end)
 }
 
@@ -81,7 +87,7 @@ fn fill_header(frame: &[u8], present: u32, values: &mut Values) -> u32
 {
     let mut set = put(TYPE_OF_SERVICE, byte_at(frame, 15), present, values);
     set = put(TOTAL_LENGTH, two_at(frame, TOTAL_AT), set, values);
-    set = put(FRAGMENT, two_at(frame, 20), set, values);
+    set = put(FRAGMENT, two_at(frame, FRAGMENT_AT), set, values);
     set = put(TIME_TO_LIVE, byte_at(frame, 22), set, values);
     set = put(PROTOCOL, byte_at(frame, PROTOCOL_AT), set, values);
     set = put(SOURCE, four_at(frame, 26), set, values);

@@ -1,4 +1,4 @@
-// Reads hand-made frames, at and around each border of document 01, "Fields", and prints one line a frame: what it tries, the
+// Reads hand-made frames, at and around each border of document 01, "Fields", and of document 02, P2, and prints one line a frame: what it tries, the
 // frame's bytes, the present set, and the fourteen fields, with - for an absent one. Box port 7 throughout.
 ghost use Prim.Native.Nat.{_≤_};
 ghost use lib.ListN.{length};
@@ -6,6 +6,8 @@ use fields::FIELDS;
 use libc::STDOUT_FILENO;
 use residue::Reading;
 
+// A packet that is whole and may not be divided.
+const WHOLE: u16 = 16384;
 // One number more than there are fields: each line ends with its - too.
 const SHOWN: u32 = FIELDS as u32 + 1;
 
@@ -49,8 +51,9 @@ fn number_bytes(f: &mut [u8]) {
     }
 }
 
-// An EtherType and an IP header with this first byte, total length and protocol; the other bytes hold their places.
-fn head(f: &mut [u8], kind: u16, first: u8, total: u16, protocol: u8)
+// An EtherType and an IP header with this first byte, total length, flags with offset, and protocol; the other bytes hold
+// their places.
+fn head(f: &mut [u8], kind: u16, first: u8, total: u16, fragment: u16, protocol: u8)
     requires { ⌜ 34 ≤ length (now f) ⌝ }
 {
     number_bytes(f);
@@ -59,16 +62,25 @@ fn head(f: &mut [u8], kind: u16, first: u8, total: u16, protocol: u8)
     f[14] = first;
     f[16] = (total / 256) as u8;
     f[17] = (total % 256) as u8;
+    f[20] = (fragment / 256) as u8;
+    f[21] = (fragment % 256) as u8;
     f[23] = protocol;
 }
 
-// The first n bytes of such a frame.
+// The first n bytes of such a frame, whose packet is whole.
 fn case(label: &[u8], n: usize, kind: u16, first: u8, total: u16, protocol: u8)
     requires { ⌜ n ≤ 96 ⌝ }
 {
     let mut f = [0u8; 96];
-    head(&mut f, kind, first, total, protocol);
+    head(&mut f, kind, first, total, WHOLE, protocol);
     show(label, &f[..n]);
+}
+
+// A fragment, without options or, with 70 for the first byte, with 4 bytes of them; 14 transport bytes at the least.
+fn fragment_case(label: &[u8], first: u8, fragment: u16, protocol: u8) {
+    let mut f = [0u8; 96];
+    head(&mut f, 2048, first, 38, fragment, protocol);
+    show(label, &f[..52]);
 }
 
 // The same for TCP in a frame about as long as the box takes, 1,522 bytes, which is no matter for fields.
@@ -76,7 +88,7 @@ fn long_case(label: &[u8], n: usize, total: u16)
     requires { ⌜ n ≤ 1523 ⌝ }
 {
     let mut f = [0u8; 1523];
-    head(&mut f, 2048, 69, total, 6);
+    head(&mut f, 2048, 69, total, WHOLE, 6);
     show(label, &f[..n]);
 }
 
@@ -176,6 +188,29 @@ fn icmp_cases() {
     case(b"icmp 2 bytes behind header 60", 76, 2048, 79, 62, 1);
 }
 
+fn first_fragment_cases() {
+    fragment_case(b"tcp not divided, no flags", 69, 0, 6);
+    fragment_case(b"tcp, first fragment", 69, 8192, 6);
+    fragment_case(b"udp, first fragment", 69, 8192, 17);
+    fragment_case(b"icmp, first fragment", 69, 8192, 1);
+    fragment_case(b"tcp, first fragment with options", 70, 8192, 6);
+    fragment_case(b"tcp, all flags and offset 0", 69, 57344, 6);
+}
+
+fn later_fragment_cases() {
+    fragment_case(b"tcp, middle fragment", 69, 8377, 6);
+    fragment_case(b"udp, middle fragment", 69, 8377, 17);
+    fragment_case(b"icmp, middle fragment", 69, 8377, 1);
+    fragment_case(b"tcp, last fragment", 69, 370, 6);
+    fragment_case(b"udp, last fragment", 69, 370, 17);
+    fragment_case(b"icmp, last fragment", 69, 370, 1);
+    fragment_case(b"tcp, last fragment with options", 70, 370, 6);
+    fragment_case(b"udp, offset 1", 69, 1, 17);
+    fragment_case(b"icmp, offset 1", 69, 1, 1);
+    fragment_case(b"udp, offset 8191", 69, 8191, 17);
+    fragment_case(b"icmp, all flags and offset 8191", 69, 65535, 1);
+}
+
 fn long_cases() {
     long_case(b"longest frame", 1522, 1508);
     long_case(b"longest frame cut by one", 1521, 1508);
@@ -196,7 +231,7 @@ fn show_full() {
 // One field at a time, of a TCP frame at box port 255.
 fn show_one(number: u32) {
     let mut f = [0u8; 96];
-    head(&mut f, 2048, 69, 34, 6);
+    head(&mut f, 2048, 69, 34, WHOLE, 6);
     print_reading(fields::read_field(&f[..48], 255, number));
 }
 
@@ -216,6 +251,8 @@ fn main() {
     udp_cases();
     tcp_cases();
     icmp_cases();
+    first_fragment_cases();
+    later_fragment_cases();
     long_cases();
     show_full();
     one_cases();

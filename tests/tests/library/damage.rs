@@ -104,7 +104,7 @@ fn allowances(frame: &Frame, table: &[u32], states: u32) -> Vec<u32> {
 
 fn try_all(table: &[u32], states: u32, frames: &[Frame], coverage: &mut Coverage) {
     for frame in frames {
-        coverage.frames += 1;
+        coverage.frame(frame);
         for allowance in allowances(frame, table, states) {
             classify_noted(frame, table, states, allowance, coverage);
         }

@@ -63,7 +63,7 @@ fn builds(coverage: &mut Coverage) {
 /// The library's answer from memory of exactly these lengths that cannot be written.
 fn classify_at(frame: &Frame, table: &[u32], end: Place, coverage: &mut Coverage) {
     let states = (table.len() / RECORD_WORDS) as u32;
-    coverage.frames += 1;
+    coverage.frame(frame);
     for allowance in [0, 1, 3, u32::MAX] {
         let answer = library().at(end).classify(&frame.bytes, frame.port, table, states, allowance);
         let should = walker::classify(&frame.bytes, frame.port, table, states, allowance);

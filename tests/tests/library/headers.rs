@@ -3,8 +3,10 @@
 
 use filterbox_tests::coverage::Coverage;
 use filterbox_tests::examples::{test, ECHO};
-use filterbox_tests::fields::{read, Readings, FIELDS, IPV4, TCP, UDP, WIDTHS};
-use filterbox_tests::frames::{compose, echo_request, hand_made, noise, towards, Frame, Layout};
+use filterbox_tests::fields::{read, Readings, FIELDS, ICMP, IPV4, TCP, UDP, WIDTHS};
+use filterbox_tests::frames::{
+    compose, echo_request, fragment, hand_made, noise, towards, Frame, Layout,
+};
 use filterbox_tests::random::Random;
 use filterbox_tests::rules::{words, Filter, Test, AT_LEAST, EQUAL};
 use filterbox_tests::runner::Runner;
@@ -23,6 +25,7 @@ pub fn run(runner: &mut Runner, coverage: &mut Coverage) {
     runner.check("each_length_of_header_packet_and_transport", || lengths(coverage));
     runner.check("each_ethertype", || ethertypes(coverage));
     runner.check("each_protocol_and_each_box_port", || protocols_and_ports(coverage));
+    runner.check("later_fragments_have_no_transport_fields", || fragments(coverage));
 }
 
 /// Tables through which the fields of a frame can be seen.
@@ -85,11 +88,12 @@ impl Lamps {
         answer.sure
     }
 
-    fn check(&self, name: &str, frame: &Frame, coverage: &mut Coverage) {
-        coverage.frames += 1;
+    fn check(&self, name: &str, frame: &Frame, coverage: &mut Coverage) -> Readings {
+        coverage.frame(frame);
         let seen = self.look(frame, coverage);
         let should = read(&frame.bytes, frame.port);
         assert_eq!(seen, should, "{name}: {:02x?}, port {}", frame.bytes, frame.port);
+        seen
     }
 }
 
@@ -215,5 +219,26 @@ fn protocols_and_ports(coverage: &mut Coverage) {
         frame.bytes[23] = number;
         frame.port = number;
         lamps.check("protocol", &frame, coverage);
+    }
+}
+
+/// All flags with each bit of the offset alone, with none and with many; with and without options.
+fn fragments(coverage: &mut Coverage) {
+    let lamps = Lamps::new(coverage);
+    let offsets = (0..13).map(|bit| 1 << bit).chain([0, 3, 185, 370, 8190, 8191]);
+    for place in offsets.flat_map(|offset| (0..8).map(move |flags| flags << 13 | offset)) {
+        for header in [5, 6, 15] {
+            each_protocol_in_a_fragment(&lamps, place, header, coverage);
+        }
+    }
+}
+
+/// What must be there is said here once more, apart from the reference.
+fn each_protocol_in_a_fragment(lamps: &Lamps, place: u32, header: u8, coverage: &mut Coverage) {
+    for (protocol, fields) in [(ICMP, vec![11, 12]), (TCP, vec![8, 9, 10]), (UDP, vec![8, 9])] {
+        let seen = lamps.check("fragment", &fragment(place, protocol, header), coverage);
+        let there: Vec<usize> = (8..=12).filter(|&field| seen[field].is_some()).collect();
+        let should = if place % 8192 == 0 { fields } else { Vec::new() };
+        assert_eq!((seen[3], there), (Some(place), should), "field 3 is {place:#06x}");
     }
 }

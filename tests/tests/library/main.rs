@@ -35,6 +35,7 @@ fn main() {
         runner.check("coverage_has_no_zero", || assert!(missing.is_empty(), "{missing:?}"));
         runner.check("coverage_is_large_enough", || {
             assert!(coverage.lists >= 20_000 && coverage.frames >= 200_000);
+            assert!(coverage.later_fragments.iter().all(|&count| count >= 2_000));
         });
     }
     runner.finish();

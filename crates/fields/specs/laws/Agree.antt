@@ -86,7 +86,7 @@ module _ (f g : List ℕ) (p : ℕ) (long : length f ≡ length g) (same : take 
 
   end-agrees : transportEnd f ≡ transportEnd g
   unfolding transportEnd
-  end-agrees = rw total-agrees
+  end-agrees = simp (total-agrees, start-agrees, two-at 20 (omega arith))
 
   absent-agree : internet f ≡ false → puts f p ≡ puts g p
   unfolding puts

@@ -36,8 +36,20 @@ cast-f-4 c = search needs
 slice-write-f-5 : tie.Need-slice-write-f-5
 slice-write-f-5 c = simp length-set (omega arith)
 
+cast-f-5 : tie.Need-cast-f-5
+cast-f-5 c = search needs
+
 slice-write-f-6 : tie.Need-slice-write-f-6
 slice-write-f-6 c = simp length-set (omega arith)
+
+cast-f-6 : tie.Need-cast-f-6
+cast-f-6 c = search needs
+
+slice-write-f-7 : tie.Need-slice-write-f-7
+slice-write-f-7 c = simp length-set (omega arith)
+
+slice-write-f-8 : tie.Need-slice-write-f-8
+slice-write-f-8 c = simp length-set (omega arith)
 
 same-length : tie.Need-same-length
 same-length c = simp length-set (omega arith)
@@ -59,6 +71,10 @@ head-spec =
     slice-write-f-4
     cast-f-4
     slice-write-f-5
+    cast-f-5
     slice-write-f-6
+    cast-f-6
+    slice-write-f-7
+    slice-write-f-8
     same-length
     returns)

@@ -81,9 +81,17 @@ whole c =
       le-leb _ _ (c .if6 .left),
     )
 
+two-at-requires-3 : tie.Need-two-at-requires-3
+two-at-requires-3 c κs = search needs
+
 returns-7 : tie.Need-returns-7
+unfolding headerLength transportStart transportEnd
+returns-7 c = rw (whole (c .before .before), ← c .before .two-at3 .ensures, ne-eqb _ _ (c .if7 .taken))
+
+returns-8 : tie.Need-returns-8
 unfolding headerLength totalLength transportStart transportEnd
-returns-7 c = rw (whole c, ← c .before .before .two-at2 .ensures)
+returns-8 c =
+    rw (whole (c .before .before), ← c .before .two-at3 .ensures, eq-eqb _ _ (c .if7 .left), ← c .before .before .before .before .two-at2 .ensures)
 
 pub packet-in-spec : {M : Type 1} → statement M
 packet-in-spec =
@@ -103,4 +111,6 @@ packet-in-spec =
     add-start
     add-end
     returns-6
-    returns-7)
+    two-at-requires-3
+    returns-7
+    returns-8)
