@@ -1,23 +1,35 @@
 -- The public calls' answers as the fields of C structs.
---   classified a   the five numbers of a walk's answer
---   scanShown a    the three numbers of scanning's answer
---   Compiled       an answer and the words afterwards are those of an outcome of building
+--   endedWith e r x  how a walk ended (0 refused, 1 done, 2 stopped), the refusal's number, and what was found
+--   classified a     these numbers for each case of the enum Answer
+--   matched a        the refusal's number or 0, the filter's number, the match set, for each case of the enum Scanned
+--   Compiled         an answer and the words afterwards are those of an outcome of building
 use mathlib.Core.Path.{_≡_}
 use Prim.Native.Nat.{ℕ}
 use mathlib.Core.List.{List}
-use Rattle.matcher.specs.Walk as W
-use Rattle.scanner.specs.Scan as S
+use Rattle.matcher.specs.declared.Found.{Found}
+use Rattle.matcher.specs.declared.Answer.{Answer}
+use Rattle.matcher.specs.declared.Answer.the-variants as A
+use Rattle.matcher.specs.Walk.{found}
+use Rattle.scanner.specs.declared.Scanned.{Scanned}
+use Rattle.scanner.specs.declared.Scanned.the-variants as S
 use Rattle.builder.specs.Outcome as B
 use Rattle.filterbox.specs.declared.FilterboxAnswer.{FilterboxAnswer}
 use Rattle.filterbox.specs.declared.FilterboxBuilt.{FilterboxBuilt}
 use Rattle.filterbox.specs.declared.FilterboxScanned.{FilterboxScanned}
 
-abbrev pub classified : FilterboxAnswer → W.Shown
-classified a =
-    record { ended = a .ended; refusal = a .refusal; sure = a .sure; out = a .out; asked = a .asked }
+abbrev pub endedWith : ℕ → ℕ → Found → FilterboxAnswer
+endedWith e r x = record { ended = e; refusal = r; sure = x .sure; out = x .out; asked = x .asked }
 
-abbrev pub scanShown : FilterboxScanned → S.Numbers
-scanShown a = record { refusal = a .refusal; filter = a .filter; set = a .set }
+-- A refusal has zeros for what was found.
+unfoldable pub classified : Answer → FilterboxAnswer
+classified (A.Done x) = endedWith 1 0 x
+classified (A.Stopped x) = endedWith 2 0 x
+classified (A.Refused n) = endedWith 0 n (found (A.Refused n))
+
+-- A refusal has an empty set.
+unfoldable pub matched : Scanned → FilterboxScanned
+matched (S.Matched s) = record { refusal = 0; filter = 0; set = s }
+matched (S.Refused r i) = record { refusal = r; filter = i; set = 0 }
 
 -- The refusal's number, and the number of states or the filter's number.
 pub record Compiled (l : B.Left) (b : FilterboxBuilt) (t s : List ℕ) : Type 0 where

@@ -5,6 +5,8 @@
 --   recordWith q next s o     the record of a question's words, a next number for each outcome, a sure set and an out set
 --   slotsOf t                 the slots of the table t: its words divided by those of a record, whole part, at most 4,096
 --   wordOf t n j              word j of record n
+--   setAt word j              the set that the words from place j on say
+--   sureSetAt t n, outSetAt t n   the sets of record n
 use Prim.Native.Nat.{ℕ, _+_, _*_, _/_, min}
 use mathlib.Core.List.{List, [], _∷_, _++_}
 use lib.ListN.{length, getD}
@@ -65,3 +67,12 @@ slotsOf t = min (length t / recordWords) maxSlots
 
 unfoldable pub wordOf : List ℕ → ℕ → ℕ → ℕ
 wordOf t n j = getD t (recordWords * n + j) 0
+
+unfoldable pub setAt : (ℕ → ℕ) → ℕ → ℕ
+setAt word j = word j
+
+unfoldable pub sureSetAt : List ℕ → ℕ → ℕ
+sureSetAt t n = setAt (wordOf t n) sureAt
+
+unfoldable pub outSetAt : List ℕ → ℕ → ℕ
+outSetAt t n = setAt (wordOf t n) outAt

@@ -34,12 +34,12 @@ module _ (l t s f : List ℕ) (p a : ℕ) where
   whole-refused r i e =
       let same : r ≡ answer .refusal = ap (λ (x : O.Shown). x .refusal) e in
       let some = unbuilt-some r i e in
-      record { unbuilt = λ _. ap W.refused same; walks = λ z. absurd (some z); demands = λ z _. absurd (some z) }
+      record { unbuilt = λ _. ap A.Refused same; walks = λ z. absurd (some z); demands = λ z _. absurd (some z) }
 
   -- A walk over what was built; the frame's bytes and the port are bytes.
   module _ (n : ℕ) (t' : List ℕ) (x : Answer) (e : O.shown (B.States n) ≡ answer) (same : t' ≡ O.outcome l t s .table)
-      (w : W.shown x ≡ W.walk f p t' n a) (bytes : Bytes f) (port : p < 2 ^ 8) where
-    follows : W.shown x ≡ walked l t s f p a
+      (w : x ≡ W.walk f p t' n a) (bytes : Bytes f) (port : p < 2 ^ 8) where
+    follows : x ≡ walked l t s f p a
     follows = w ∙ ap₂ (λ (u : List ℕ) (m : ℕ). W.walk f p u m a) same (ap (λ (y : O.Shown). y .number) e)
 
     built : 0 ≡ answer .refusal

@@ -13,7 +13,7 @@ use Rattle.lists.specs.Words.{itemWords}
 use Rattle.lists.specs.Filters.{Item, Filter}
 use Rattle.states.specs.States.{State, start, nothing, questionOf, stepBy, sureSet, outSet}
 use Rattle.states.specs.inner.Choices.{Chosen}
-use Rattle.tables.specs.Tables.{slotsOf, wordOf, sureAt, outAt}
+use Rattle.tables.specs.Tables.{slotsOf, sureSetAt, outSetAt}
 use Rattle.tables.specs.inner.Records.{questionAt, wayAt}
 
 pub record FinalRecord (t : List ℕ) (n : ℕ) (s : State) : Type 0 where
@@ -34,8 +34,8 @@ pub record LabelledBy (May : Item → State → Type 0) (fs : List Filter) (t : 
   pub fits : m ≤ slotsOf t
   pub first : give 0 ≡ start fs
   pub each : (n : ℕ) → n < m → FinalRecord t n (give n) ⊎ AskingRecord May fs t m give n
-  pub sures : (n : ℕ) → n < m → wordOf t n sureAt ≡ sureSet fs (give n)
-  pub outs : (n : ℕ) → n < m → wordOf t n outAt ≡ outSet fs (give n)
+  pub sures : (n : ℕ) → n < m → sureSetAt t n ≡ sureSet fs (give n)
+  pub outs : (n : ℕ) → n < m → outSetAt t n ≡ outSet fs (give n)
 
 abbrev pub Labelled : List Filter → List ℕ → ℕ → Type 0
 Labelled fs t m = LabelledBy Chosen fs t m
