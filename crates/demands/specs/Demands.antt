@@ -32,7 +32,7 @@ use Rattle.matcher.specs.declared.Answer.{Answer}
 use Rattle.matcher.specs.Walk.{found, isDone, walk}
 use Rattle.scanner.specs.Scan.{scanned}
 use Rattle.scanner.specs.declared.Scanned.the-variants.{Matched}
-use Rattle.builder.specs.Outcome.{Left, scratchWords, outcome}
+use Rattle.builder.specs.Outcome.{refusalOf, numberOf, Left, scratchWords, outcome}
 use Rattle.labels.specs.Labels.{shownAt, Legal}
 use Rattle.demands.specs.laws.Builds.{build-full, build-fits}
 use Rattle.demands.specs.laws.Settled.{exact, all-done, all-matches, all-scanned, open-so, sure-so, out-so, sure-kept, out-kept, none-left, asked-few}
@@ -46,9 +46,9 @@ module _ (l t s : List ℕ) where
   b = outcome l t s
 
   -- A list that is built, and a frame that is not refused.
-  module _ (built : b .answer .refusal ≡ 0) (f : List ℕ) (p : ℕ) (legal : Legal f p) where
+  module _ (built : refusalOf (b .answer) ≡ 0) (f : List ℕ) (p : ℕ) (legal : Legal f p) where
     abbrev w : ℕ → Answer
-    w a = walk f p (b .table) (b .answer .number) a
+    w a = walk f p (b .table) (numberOf (b .answer)) a
 
     -- Demand 2: with an allowance of the list's tests the walk is done, and a filter is sure exactly where it is in the match set.
     pub demand-2 : (a : ℕ) → testsIn fs ≤ a → (isDone (w a) ≡ true) × ((i : ℕ) → member i (found (w a) .sure) ≡ matches fs (field f p) i)
@@ -88,10 +88,10 @@ module _ (l t s : List ℕ) where
   -- An accepted list.
   module _ (n k : ℕ) (accepted : listed l ≡ Accepted n k) where
     -- Demand 2, last sentence: with scratch enough for the slots it is refused for want of room exactly where it has more states than the table has slots; else it is built.
-    pub demand-2-room : scratchWords t ≤ length s → (b .answer .refusal ≡ 11 → slotsOf t < length (statesOf fs)) × (slotsOf t < length (statesOf fs) → b .answer .refusal ≡ 11)
+    pub demand-2-room : scratchWords t ≤ length s → (refusalOf (b .answer) ≡ 11 → slotsOf t < length (statesOf fs)) × (slotsOf t < length (statesOf fs) → refusalOf (b .answer) ≡ 11)
     demand-2-room = build-full l t s n k accepted
 
-    pub demand-2-built : scratchWords t ≤ length s → length (statesOf fs) ≤ slotsOf t → b .answer .refusal ≡ 0
+    pub demand-2-built : scratchWords t ≤ length s → length (statesOf fs) ≤ slotsOf t → refusalOf (b .answer) ≡ 0
     demand-2-built = build-fits l t s n k accepted
 
     -- These states are distinct, and a state is one of them exactly where outcomes can reach it from the start.

@@ -5,10 +5,10 @@ use Prim.Native.Nat.{ℕ}
 use mathlib.Core.List.{List}
 use Rattle.matcher.specs.declared.Answer.{Answer}
 use Rattle.matcher.specs.Walk.{walk}
-use Rattle.builder.specs.Outcome.{Left, outcome}
+use Rattle.builder.specs.Outcome.{numberOf, Left, outcome}
 
 abbrev pub walkOver : Left → List ℕ → ℕ → ℕ → Answer
-walkOver b f p a = walk f p (b .table) (b .answer .number) a
+walkOver b f p a = walk f p (b .table) (numberOf (b .answer)) a
 
 abbrev pub walked : List ℕ → List ℕ → List ℕ → List ℕ → ℕ → ℕ → Answer
 walked l t s f p a = walkOver (outcome l t s) f p a

@@ -34,8 +34,8 @@ pub build-and-classify-tight :
     (l t s f : List ℕ) (p a : ℕ) (x y : Answer) (tx ty sx sy : List ℕ) → Whole l t s f p a x → Rooms (O.outcome l t s) tx sx → Whole l t s f p a y →
     Rooms (O.outcome l t s) ty sy → (x ≡ y) × (tx ≡ ty) × (sx ≡ sy)
 build-and-classify-tight l t s f p a x y tx ty sx sy wx rx wy ry =
-    (same (O.outcome l t s .answer .refusal) refl, rx .table ∙ sym (ry .table), rx .scratch ∙ sym (ry .scratch))
+    (same (O.refusalOf (O.outcome l t s .answer)) refl, rx .table ∙ sym (ry .table), rx .scratch ∙ sym (ry .scratch))
   where
-    same : (n : ℕ) → O.outcome l t s .answer .refusal ≡ n → x ≡ y
+    same : (n : ℕ) → O.refusalOf (O.outcome l t s .answer) ≡ n → x ≡ y
     same zero e = wx .walks e ∙ sym (wy .walks e)
-    same (suc n) e = let some : 0 < O.outcome l t s .answer .refusal = omega arith in wx .unbuilt some ∙ sym (wy .unbuilt some)
+    same (suc n) e = let some : 0 < O.refusalOf (O.outcome l t s .answer) = omega arith in wx .unbuilt some ∙ sym (wy .unbuilt some)

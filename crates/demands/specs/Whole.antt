@@ -50,6 +50,6 @@ module _ (l t s f : List ℕ) (p a : ℕ) where
     pub few : (W.found x .asked ≤ a) × (W.found x .asked ≤ testsIn fs)
 
   pub record Whole (x : Answer) : Type 0 where
-    pub unbuilt : 0 < O.outcome l t s .answer .refusal → x ≡ Refused (O.outcome l t s .answer .refusal)
-    pub walks : O.outcome l t s .answer .refusal ≡ 0 → x ≡ walked l t s f p a
-    pub demands : O.outcome l t s .answer .refusal ≡ 0 → length f ≤ maxFrame → Told x
+    pub unbuilt : 0 < O.refusalOf (O.outcome l t s .answer) → x ≡ Refused (O.refusalOf (O.outcome l t s .answer))
+    pub walks : O.refusalOf (O.outcome l t s .answer) ≡ 0 → x ≡ walked l t s f p a
+    pub demands : O.refusalOf (O.outcome l t s .answer) ≡ 0 → length f ≤ maxFrame → Told x

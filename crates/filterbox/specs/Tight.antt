@@ -1,12 +1,12 @@
 -- How tight the promises of the C calls are (document 01, the section of that name): two outcomes that one promise allows are equal.
 use Prim.Native.Nat.{ℕ}
-use mathlib.Core.Path.{_≡_, sym, ap₂, _∙_}
+use mathlib.Core.Path.{_≡_, sym, _∙_}
 use mathlib.Core.List.{List}
 use Rattle.slots.specs.Words.{slotWords}
 use Rattle.matcher.specs.declared.Answer.{Answer}
 use Rattle.scanner.specs.declared.Scanned.{Scanned}
 use Rattle.builder.specs.Outcome as B
-use Rattle.filterbox.specs.Shown.{classified, matched, Compiled}
+use Rattle.filterbox.specs.Numbers.{classified, matched, Compiled}
 use Rattle.filterbox.specs.declared.FilterboxAnswer.{FilterboxAnswer}
 use Rattle.filterbox.specs.declared.FilterboxBuilt.{FilterboxBuilt}
 use Rattle.filterbox.specs.declared.FilterboxScanned.{FilterboxScanned}
@@ -15,7 +15,7 @@ use Rattle.filterbox.specs.declared.FilterboxScanned.{FilterboxScanned}
 pub filterbox-build-tight :
     (l : B.Left) (a b : FilterboxBuilt) (ta tb sa sb : List ℕ) → Compiled l a ta sa → Compiled l b tb sb → (a ≡ b) × (ta ≡ tb) × (sa ≡ sb)
 filterbox-build-tight l a b ta tb sa sb x y = (
-  ap₂ (λ (r n : ℕ). record { refusal = r; number = n }) (x .refusal ∙ sym (y .refusal)) (x .number ∙ sym (y .number)),
+  x .answer ∙ sym (y .answer),
   x .table ∙ sym (y .table),
   x .scratch ∙ sym (y .scratch),
 )

@@ -2,11 +2,9 @@
 ghost use mathlib.Core.Path.{_≡_};
 ghost use Rattle.slots.specs.Words.{slotWords};
 ghost use Rattle.builder.specs.Outcome.{outcome};
-ghost use Rattle.builder.specs.Outcome.{shown as B·shown};
 ghost use Rattle.matcher.specs.Walk.{walk};
 ghost use Rattle.scanner.specs.Scan.{scanned};
-ghost use Rattle.filterbox.specs.Shown.{Compiled, endedWith, classified, matched};
-ghost use Rattle.filterbox.specs.inner.Numbers.{Numbers};
+ghost use Rattle.filterbox.specs.Numbers.{builtWith, Compiled, endedWith, classified, matched};
 use builder::Built;
 use matcher::Answer;
 use matcher::Found;
@@ -23,7 +21,7 @@ pub struct FilterboxBuilt {
 }
 
 fn built_of(built: Built) -> FilterboxBuilt
-    ensures { λ r. ⌜ Numbers r (B·shown built) ⌝ }
+    ensures { λ r. ⌜ r ≡ builtWith built ⌝ }
 {
     match built {
         Built::States(states) => FilterboxBuilt {

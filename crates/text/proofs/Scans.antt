@@ -11,7 +11,7 @@ use native.Mathlib.Omega.{arith}
 use native.Mathlib.Nat.{le-refl}
 use lib.Dec.{leb}
 use borrow.Author.Tests.{leb-true, leb-false, lt-leb}
-use Rattle.text.specs.Text.{maxWord, separates, runs, onto, full, items, isDigit, digitsOnly, spelled, valueOf, isNumber, allNumbers, numbers}
+use Rattle.text.specs.Text.{maxWord, separates, runs, onto, nonempty, items, isDigit, digitsOnly, spelled, valueOf, isNumber, allNumbers, numbers}
 use Rattle.text.specs.inner.Steps.{more, step}
 use Rattle.text.specs.declared.Place.{Place}
 use Rattle.text.specs.declared.Place.the-variants.{Between, Inside}
@@ -73,11 +73,11 @@ onto-first b [] = refl
 onto-first b (r ∷ rs) = refl
 
 -- A run with a byte in it is kept.
-full-kept : (p : List ℕ) (b : ℕ) (r : List ℕ) (rs : List (List ℕ)) →
-    full ((p ++ (b ∷ []) ++ r) ∷ rs) ≡ (p ++ (b ∷ []) ++ r) ∷ full rs
-unfolding full
-full-kept [] b r rs = refl
-full-kept (a ∷ p) b r rs = refl
+nonempty-kept : (p : List ℕ) (b : ℕ) (r : List ℕ) (rs : List (List ℕ)) →
+    nonempty ((p ++ (b ∷ []) ++ r) ∷ rs) ≡ (p ++ (b ∷ []) ++ r) ∷ nonempty rs
+unfolding nonempty
+nonempty-kept [] b r rs = refl
+nonempty-kept (a ∷ p) b r rs = refl
 
 spelled-append : (v : ℕ) (p q : List ℕ) → spelled v (p ++ q) ≡ spelled (spelled v p) q
 unfolding spelled
@@ -138,51 +138,51 @@ value-wrong p b r l =
 abbrev Inner : List ℕ → Type 0
 Inner bs =
     (p : List ℕ) (b : ℕ) → isNumber (p ++ (b ∷ [])) ≡ true →
-    scan (Inside (valueOf (p ++ (b ∷ [])))) bs ≡ judged (full ((p ++ (b ∷ []) ++ first (runs bs)) ∷ others (runs bs)))
+    scan (Inside (valueOf (p ++ (b ∷ [])))) bs ≡ judged (nonempty ((p ++ (b ∷ []) ++ first (runs bs)) ∷ others (runs bs)))
 
 -- One byte that is no separator, behind the bytes p of an item that are a number, or no bytes.
 module _ (bs : List ℕ) (ih : Inner bs) (p : List ℕ) (b : ℕ) (n : isNumber p ≡ true) where
   item-byte :
       after (more (valueOf p) b) (λ (q : Place). scan q bs) ≡
-      judged (full ((p ++ (b ∷ []) ++ first (runs bs)) ∷ others (runs bs)))
+      judged (nonempty ((p ++ (b ∷ []) ++ first (runs bs)) ∷ others (runs bs)))
   unfolding more
   item-byte =
-      rw (full-kept p b (first (runs bs)) (others (runs bs)))
+      rw (nonempty-kept p b (first (runs bs)) (others (runs bs)))
       (on-bool (isDigit b)
       (λ (d : isDigit b ≡ true).
       on-bool (leb (valueOf p * 10 + (b - 48)) maxWord)
       (λ (l : leb (valueOf p * 10 + (b - 48)) maxWord ≡ true).
-      rw (d, l, ← value-more p b, ih p b (number-more p b n d l), full-kept p b (first (runs bs)) (others (runs bs))))
+      rw (d, l, ← value-more p b, ih p b (number-more p b n d l), nonempty-kept p b (first (runs bs)) (others (runs bs))))
       (λ (l : leb (valueOf p * 10 + (b - 48)) maxWord ≡ false).
-      rw (d, l, judged-wrong _ (full (others (runs bs))) (value-wrong p b (first (runs bs)) l))))
-      (λ (d : isDigit b ≡ false). rw (d, judged-wrong _ (full (others (runs bs))) (digits-wrong p b (first (runs bs)) d))))
+      rw (d, l, judged-wrong _ (nonempty (others (runs bs))) (value-wrong p b (first (runs bs)) l))))
+      (λ (d : isDigit b ≡ false). rw (d, judged-wrong _ (nonempty (others (runs bs))) (digits-wrong p b (first (runs bs)) d))))
 
 scan-none : scan Between [] ≡ judged (items [])
-unfolding scan runs full items numbers allNumbers
+unfolding scan runs nonempty items numbers allNumbers
 scan-none = refl
 
 inner-end : Inner []
-unfolding scan runs full numbers allNumbers
+unfolding scan runs nonempty numbers allNumbers
 inner-end p b n =
-    rw (full-kept p b [] [], append-nil (p ++ (b ∷ [])), judged-number (p ++ (b ∷ [])) (full []) n)
+    rw (nonempty-kept p b [] [], append-nil (p ++ (b ∷ [])), judged-number (p ++ (b ∷ [])) (nonempty []) n)
 
 module _ (b : ℕ) (bs : List ℕ) where
   blank-apart : separates b ≡ true → scan Between bs ≡ judged (items bs) → scan Between (b ∷ bs) ≡ judged (items (b ∷ bs))
-  unfolding scan runs items full step
+  unfolding scan runs items nonempty step
   blank-apart s h = rw s h
 
   blank-inside : separates b ≡ true → scan Between bs ≡ judged (items bs) → (p : List ℕ) (a : ℕ) → isNumber (p ++ (a ∷ [])) ≡ true →
-      scan (Inside (valueOf (p ++ (a ∷ [])))) (b ∷ bs) ≡ judged (full ((p ++ (a ∷ []) ++ first (runs (b ∷ bs))) ∷ others (runs (b ∷ bs))))
+      scan (Inside (valueOf (p ++ (a ∷ [])))) (b ∷ bs) ≡ judged (nonempty ((p ++ (a ∷ []) ++ first (runs (b ∷ bs))) ∷ others (runs (b ∷ bs))))
   unfolding scan runs items step
   blank-inside s h p a n =
-      rw (s, full-kept p a [] (runs bs), append-nil (p ++ (a ∷ [])), judged-number (p ++ (a ∷ [])) (full (runs bs)) n, h)
+      rw (s, nonempty-kept p a [] (runs bs), append-nil (p ++ (a ∷ [])), judged-number (p ++ (a ∷ [])) (nonempty (runs bs)) n, h)
 
   byte-apart : separates b ≡ false → Inner bs → scan Between (b ∷ bs) ≡ judged (items (b ∷ bs))
   unfolding scan runs items step valueOf spelled
   byte-apart s h = rw (s, onto-first b (runs bs)) (item-byte bs h [] b number-none)
 
   byte-inside : separates b ≡ false → Inner bs → (p : List ℕ) (a : ℕ) → isNumber (p ++ (a ∷ [])) ≡ true →
-      scan (Inside (valueOf (p ++ (a ∷ [])))) (b ∷ bs) ≡ judged (full ((p ++ (a ∷ []) ++ first (runs (b ∷ bs))) ∷ others (runs (b ∷ bs))))
+      scan (Inside (valueOf (p ++ (a ∷ [])))) (b ∷ bs) ≡ judged (nonempty ((p ++ (a ∷ []) ++ first (runs (b ∷ bs))) ∷ others (runs (b ∷ bs))))
   unfolding scan runs step
   byte-inside s h p a n =
       rw (s, onto-first b (runs bs), ← append-assoc (p ++ (a ∷ [])) (b ∷ []) (first (runs bs)))

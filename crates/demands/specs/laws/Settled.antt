@@ -25,7 +25,7 @@ use Rattle.matcher.specs.Walk.{found, isDone}
 use Rattle.scanner.specs.Scan.{scanned}
 use Rattle.scanner.specs.laws.Scans.{scanned-set}
 use Rattle.scanner.specs.declared.Scanned.the-variants.{Matched}
-use Rattle.builder.specs.Outcome.{placed, outcome}
+use Rattle.builder.specs.Outcome.{refusalOf, numberOf, placed, outcome}
 use Rattle.labels.specs.Labels.{shownAt, Legal}
 use Rattle.labels.specs.inner.Labelled.{LabelledBy}
 use Rattle.labels.specs.laws.Truths.{Shows, open-member, legal-widths, labelled-shows, labelled-keeps, picked-run, shows-done, shows-matches, shows-set, shows-settled, shows-sure, shows-out, shows-asked}
@@ -37,14 +37,14 @@ few-slots : (t : List ℕ) (m : ℕ) → m ≤ slotsOf t → m ≤ maxSlots
 unfolding slotsOf
 few-slots t m l = omega (arith, min-le-right (length t / recordWords) maxSlots)
 
-module _ (l t s : List ℕ) (built : outcome l t s .answer .refusal ≡ 0) where
+module _ (l t s : List ℕ) (built : refusalOf (outcome l t s .answer) ≡ 0) where
   abbrev fs : List Filter
   fs = filtersOf l
 
   success : Success l t s
   success = build-success l t s built
 
-  pub table-labelled : LabelledBy Picked fs (outcome l t s .table) (outcome l t s .answer .number)
+  pub table-labelled : LabelledBy Picked fs (outcome l t s .table) (numberOf (outcome l t s .answer))
   unfolding placed
   table-labelled = rw (success .left) (built-labelled fs (success .well) (drop (length (recordsIn fs)) t) (few-slots t _ (success .fits)))
 

@@ -1,7 +1,7 @@
 -- `filterbox::answer_of` meets its contract: each arm has the numbers that document 01 gives for its case.
 -- Assumes nothing.
 use borrow.Author.Needs.{needs}
-use Rattle.filterbox.specs.Shown.{classified}
+use Rattle.filterbox.specs.Numbers.{classified}
 use Rattle.filterbox.proofs.answer_of.Statement.{statement}
 use Rattle.filterbox.proofs.answer_of.Tie as tie
 

@@ -1,7 +1,7 @@
 -- `filterbox::filterbox_classify` meets its contract: it is the promise of `matcher::classify`, with the answer as a struct.
 -- Assumes nothing.
 use mathlib.Core.Path.{ap, _∙_}
-use Rattle.filterbox.specs.Shown.{classified}
+use Rattle.filterbox.specs.Numbers.{classified}
 use borrow.Author.Needs.{needs}
 use Rattle.filterbox.proofs.filterbox_classify.Statement.{statement}
 use Rattle.filterbox.proofs.filterbox_classify.Tie as tie

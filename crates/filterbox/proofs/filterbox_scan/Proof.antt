@@ -1,7 +1,7 @@
 -- `filterbox::filterbox_scan` meets its contract: it is the promise of `scanner::scan`, with the answer as a struct.
 -- Assumes nothing.
 use mathlib.Core.Path.{ap, _∙_}
-use Rattle.filterbox.specs.Shown.{matched}
+use Rattle.filterbox.specs.Numbers.{matched}
 use borrow.Author.Needs.{needs}
 use Rattle.filterbox.proofs.filterbox_scan.Statement.{statement}
 use Rattle.filterbox.proofs.filterbox_scan.Tie as tie

@@ -1,7 +1,7 @@
 -- `filterbox::scanned_of` meets its contract: each arm has the numbers of its case.
 -- Assumes nothing.
 use borrow.Author.Needs.{needs}
-use Rattle.filterbox.specs.Shown.{matched}
+use Rattle.filterbox.specs.Numbers.{matched}
 use Rattle.filterbox.proofs.scanned_of.Statement.{statement}
 use Rattle.filterbox.proofs.scanned_of.Tie as tie
 
