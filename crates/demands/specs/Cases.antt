@@ -14,7 +14,7 @@ use mathlib.Core.List.{List, [], _∷_}
 use lib.Dec.{eqb}
 use Rattle.residue.specs.Tests as T
 use Rattle.residue.specs.Residues as D
-use Rattle.residue.specs.Relations as E
+use Rattle.residue.specs.inner.Relations as E
 use Rattle.residue.specs.declared.Test.{Test}
 use Rattle.residue.specs.declared.Test.the-variants.{Equal, Differs, AtLeast}
 use Rattle.residue.specs.declared.Fact.{Fact}

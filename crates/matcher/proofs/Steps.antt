@@ -17,8 +17,8 @@ use Rattle.residue.specs.Tests.{holds}
 use Rattle.residue.specs.declared.Reading.{Reading}
 use Rattle.residue.specs.declared.Reading.the-variants.{Absent, Value}
 use Rattle.fields.specs.Widths.{fieldCount}
-use Rattle.lists.specs.Filters.{kindAtLeast, testOf}
-use Rattle.tables.specs.Tables.{recordWords, wordOf, kindAt, fieldAt, setAt, sureSetAt, outSetAt}
+use Rattle.lists.specs.Filters.{kindAtLeast, testOf, kindAt, fieldAt}
+use Rattle.tables.specs.Tables.{recordWords, wordOf, setAt, sureSetAt, outSetAt}
 use Rattle.matcher.specs.declared.Answer.{Answer}
 use Rattle.matcher.specs.declared.Answer.the-variants.{Refused}
 use Rattle.matcher.specs.Walk.{foundAt, damaged, nextBy, nextOf, arrive, onward, walkFrom}

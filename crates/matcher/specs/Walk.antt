@@ -16,8 +16,8 @@ use Rattle.residue.specs.declared.Reading.the-variants.{Absent, Value}
 use Rattle.fields.specs.Widths.{fieldCount}
 use Rattle.fields.specs.Ethernet.{maxFrame}
 use Rattle.fields.specs.Fields.{field}
-use Rattle.lists.specs.Filters.{kindAtLeast, testOf}
-use Rattle.tables.specs.Tables.{slotsOf, wordOf, kindAt, fieldAt, maskAt, valueAt, holdsAt, failsAt, absentAt, sureSetAt, outSetAt}
+use Rattle.lists.specs.Filters.{kindAtLeast, testOf, kindAt, fieldAt, maskAt, valueAt}
+use Rattle.tables.specs.Tables.{slotsOf, wordOf, holdsAt, failsAt, absentAt, sureSetAt, outSetAt}
 use Rattle.matcher.specs.declared.Found.{Found}
 use Rattle.matcher.specs.declared.Answer.{Answer}
 use Rattle.matcher.specs.declared.Answer.the-variants.{Done, Stopped, Refused}

@@ -1,6 +1,6 @@
 -- Document 01, "States and the table", third and fourth paragraph: a table is a run of records, and a record has the words of its question, its next numbers and its sets.
 --   setWords, recordWords, maxSlots   words a set and a record, and the most slots of a table
---   kindAt .. outAt           the places of a record's words; nextAt o is that of the next number at the outcome o
+--   holdsAt .. outAt          the places of a record's words behind its question's; nextAt o is that of the next number at the outcome o
 --   asWords s                 the words of a set
 --   recordWith q next s o     the record of a question's words, a next number for each outcome, a sure set and an out set
 --   slotsOf t                 the slots of the table t: its words divided by those of a record, whole part, at most 4,096
@@ -12,6 +12,7 @@ use mathlib.Core.List.{List, [], _∷_, _++_}
 use lib.ListN.{length, getD}
 use Rattle.residue.specs.declared.Outcome.{Outcome}
 use Rattle.residue.specs.declared.Outcome.the-variants.{Holds, Fails, Absent}
+use Rattle.lists.specs.Filters.{testWords}
 
 abbrev pub maxSlots : ℕ
 maxSlots = 4096
@@ -19,30 +20,18 @@ maxSlots = 4096
 abbrev pub setWords : ℕ
 setWords = 1
 
--- The places of a record's words: its question, its next numbers, its sets.
-abbrev pub kindAt : ℕ
-kindAt = 0
-
-abbrev pub fieldAt : ℕ
-fieldAt = 1
-
-abbrev pub maskAt : ℕ
-maskAt = 2
-
-abbrev pub valueAt : ℕ
-valueAt = 3
-
+-- The places of a record's words: its question's, as in a list; its next numbers, its sets.
 abbrev pub holdsAt : ℕ
-holdsAt = 4
+holdsAt = testWords
 
 abbrev pub failsAt : ℕ
-failsAt = 5
+failsAt = holdsAt + 1
 
 abbrev pub absentAt : ℕ
-absentAt = 6
+absentAt = failsAt + 1
 
 abbrev pub sureAt : ℕ
-sureAt = 7
+sureAt = absentAt + 1
 
 abbrev pub outAt : ℕ
 outAt = sureAt + setWords

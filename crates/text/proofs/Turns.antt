@@ -126,8 +126,8 @@ module _ (t before words : List ℕ) (count : ℕ) (place : Place) (i : ℕ) (r 
         rest = rw (r .rest, scan-next h, e);
       }
 
-  pub refused : i < length t → step place (getD t i 0) ≡ Wrong → Reads t before words Refused
-  refused h e =
+  pub wrong-read : i < length t → step place (getD t i 0) ≡ Wrong → Reads t before words Refused
+  wrong-read h e =
       comes-to t before words count false Refused refl (r .short) (omega arith) (r .kept)
       (rw (r .rest, scan-next h, e, append-nil (take count words)))
 

@@ -4,7 +4,7 @@
 --   runs t             the text cut at every separator: what stands between them, empty runs too
 --   items t            the runs that are not empty
 --   isDigit b          the byte is one of 0 to 9
---   valueOf item       the decimal number that the item's bytes spell
+--   decimal item       the decimal number that the item's bytes spell
 --   isNumber item      digits only, and the number is at most maxWord
 --   tooLong t          more bytes than maxText
 --   readable t         refusal 14 is not met: the text is not too long, and every item is a number
@@ -59,11 +59,11 @@ unfoldable pub spelled : ℕ → List ℕ → ℕ
 spelled v [] = v
 spelled v (b ∷ bs) = spelled (v * 10 + (b - 48)) bs
 
-unfoldable pub valueOf : List ℕ → ℕ
-valueOf item = spelled 0 item
+unfoldable pub decimal : List ℕ → ℕ
+decimal item = spelled 0 item
 
 unfoldable pub isNumber : List ℕ → Bool
-isNumber item = digitsOnly item && leb (valueOf item) maxWord
+isNumber item = digitsOnly item && leb (decimal item) maxWord
 
 unfoldable pub allNumbers : List (List ℕ) → Bool
 allNumbers [] = true
@@ -72,7 +72,7 @@ allNumbers (item ∷ rest) = isNumber item && allNumbers rest
 -- The numbers of the items before the first that is no number.
 unfoldable pub numbers : List (List ℕ) → List ℕ
 numbers [] = []
-numbers (item ∷ rest) = cond (isNumber item) (valueOf item ∷ numbers rest) []
+numbers (item ∷ rest) = cond (isNumber item) (decimal item ∷ numbers rest) []
 
 unfoldable pub tooLong : List ℕ → Bool
 tooLong t = ltb maxText (length t)

@@ -17,7 +17,7 @@ use Rattle.residue.specs.declared.Reading.the-variants as R
 use Rattle.residue.specs.declared.Outcome.the-variants.{Holds, Fails}
 use Rattle.fields.specs.Widths.{fieldCount}
 use Rattle.lists.specs.Words.{kindOf, itemWords}
-use Rattle.lists.specs.Filters.{Item, Filter, itemOf}
+use Rattle.lists.specs.Filters.{Item, Filter, itemOf, kindAt, fieldAt}
 use Rattle.lists.specs.laws.Items.{kind-some, kind-known, item-round}
 use Rattle.states.specs.States.{State, nothing, questionOf}
 use Rattle.states.specs.Runs.{wayOf}
@@ -26,7 +26,7 @@ use Rattle.states.specs.laws.Well.{item-field}
 use Rattle.states.specs.laws.Choices.{path-of, path-free}
 use Rattle.states.specs.laws.Well.{wellState, well-left, well-step, well-leads}
 use Rattle.states.specs.laws.Keeps.{by-question, left-asks}
-use Rattle.tables.specs.Tables.{wordOf, nextAt, kindAt, fieldAt, holdsAt, failsAt}
+use Rattle.tables.specs.Tables.{wordOf, nextAt, holdsAt, failsAt}
 use Rattle.tables.specs.inner.Records.{questionAt, wayAt}
 use Rattle.matcher.specs.Walk.{foundAt, damaged, nextBy, nextOf, walkFrom}
 use Rattle.labels.specs.Labels.{endedBy, shownAt}

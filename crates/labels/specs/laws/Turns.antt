@@ -5,7 +5,8 @@ use mathlib.Core.Bool.{true, false}
 use mathlib.Core.List.{List}
 use lib.Dec.{ltb, eqb}
 use Rattle.residue.specs.declared.Reading.{Reading}
-use Rattle.tables.specs.Tables.{wordOf, kindAt}
+use Rattle.lists.specs.Filters.{kindAt}
+use Rattle.tables.specs.Tables.{wordOf}
 use Rattle.matcher.specs.declared.Answer.the-variants.{Done, Stopped}
 use Rattle.matcher.specs.Walk.{foundAt, damaged, nextOf, arrive, onward, walkFrom}
 

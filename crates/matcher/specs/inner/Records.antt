@@ -8,8 +8,8 @@ use mathlib.Core.List.{List}
 use lib.Dec.{leb, ltb, eqb}
 use lib.ListN.{getD}
 use Rattle.fields.specs.Widths.{fieldCount}
-use Rattle.lists.specs.Filters.{kindAtLeast}
-use Rattle.tables.specs.Tables.{kindAt, fieldAt, sureAt, outAt, setAt}
+use Rattle.lists.specs.Filters.{kindAtLeast, kindAt, fieldAt}
+use Rattle.tables.specs.Tables.{sureAt, outAt, setAt}
 use Rattle.matcher.specs.declared.Found.{Found}
 use Rattle.matcher.specs.declared.Answer.{Answer}
 use Rattle.matcher.specs.declared.Answer.the-variants.{Done, Stopped}

@@ -9,10 +9,11 @@ use Prim.Native.Nat.{ℕ, _+_, _*_}
 use mathlib.Core.List.{List, [], _∷_}
 use lib.ListN.{take, drop, set}
 use Rattle.residue.specs.declared.Outcome.{Outcome}
-use Rattle.tables.specs.Tables.{kindAt, fieldAt, maskAt, valueAt, recordWords, nextAt, recordWith, wordOf}
+use Rattle.lists.specs.Filters.{testWords, kindAt, fieldAt, maskAt, valueAt}
+use Rattle.tables.specs.Tables.{recordWords, nextAt, recordWith, wordOf}
 
 abbrev pub askWords : ℕ
-askWords = 4
+askWords = testWords
 
 unfoldable pub putSet : ℕ → ℕ → List ℕ → List ℕ
 putSet j s ws = set ws j s

@@ -16,7 +16,7 @@ use mathlib.Core.List.{List, [], _∷_, _++_}
 use lib.ListN.{length, take, replicate, length-append}
 use lib.Seq.{take-at}
 use borrow.Author.Tests.{not-true}
-use Rattle.text.specs.Text.{separates, onto, runs, nonempty, items, isDigit, digitsOnly, spelled, valueOf, isNumber, allNumbers, numbers, tooLong, readable, wordsOf, readOf, Reads}
+use Rattle.text.specs.Text.{separates, onto, runs, nonempty, items, isDigit, digitsOnly, spelled, decimal, isNumber, allNumbers, numbers, tooLong, readable, wordsOf, readOf, Reads}
 use Rattle.text.specs.declared.Read.{Read}
 use Rattle.text.specs.declared.Read.the-variants.{Words, Refused}
 
@@ -56,17 +56,17 @@ pub reads-one : (t before : List ℕ) {a b : List ℕ} {r s : Read} → Reads t 
 reads-one t before {r = r} {s = s} p q = (p .words ∙ sym (q .words), p .answer ∙ sym (q .answer))
 
 -- 0 for the refusal, and one more than the words counted.
-abbrev counts : Read → ℕ
-counts (Words n) = suc n
-counts Refused = 0
+abbrev oneMore : Read → ℕ
+oneMore (Words n) = suc n
+oneMore Refused = 0
 
 refused-by : (a : Bool) (m : ℕ) → Refused ≡ cond a (Words m) Refused → a ≡ false
-refused-by true m e = absurd (omega (arith, ap counts e))
+refused-by true m e = absurd (omega (arith, ap oneMore e))
 refused-by false m e = refl
 
 counted-by : (a : Bool) (m n : ℕ) → Words n ≡ cond a (Words m) Refused → (a ≡ true) × (m ≡ n)
-counted-by true m n e = (refl, omega (arith, ap counts e))
-counted-by false m n e = absurd (omega (arith, ap counts e))
+counted-by true m n e = (refl, omega (arith, ap oneMore e))
+counted-by false m n e = absurd (omega (arith, ap oneMore e))
 
 module _ {t before after : List ℕ} {r : Read} (p : Reads t before after r) where
   pub reads-refused : r ≡ Refused → readable t ≡ false
@@ -103,5 +103,5 @@ Tried =
     (readOf (replicate 16385 32) ≡ Refused)
 
 pub tried : Tried
-unfolding readOf readable tooLong wordsOf allNumbers numbers items nonempty runs onto separates isNumber digitsOnly isDigit valueOf spelled
+unfolding readOf readable tooLong wordsOf allNumbers numbers items nonempty runs onto separates isNumber digitsOnly isDigit decimal spelled
 tried = (refl, refl, refl, refl, refl, refl, refl, refl, refl, refl, refl)
