@@ -6,11 +6,12 @@
 #include <string.h>
 #include "filterbox.h"
 
-
-enum { SLOTS = 4096, STACK = 1 << 20 };
+enum { SLOTS = FILTERBOX_MOST_SLOTS, TABLE = FILTERBOX_RECORD_WORDS * SLOTS, STACK = 1 << 20 };
+/* The most scratch words that a slot may take. */
+enum { MOST_SCRATCH_WORDS = 1024 };
 static _Alignas(65536) unsigned char stack[STACK];
-static uint32_t list[32 * 35], table[9 * SLOTS], scratch[1024 * SLOTS];
-static size_t words;
+static uint32_t list[FILTERBOX_MOST_FILTERS * (3 + 4 * FILTERBOX_MOST_TESTS)], table[TABLE], scratch[MOST_SCRATCH_WORDS * SLOTS];
+static size_t words, scratch_words;
 static FilterboxBuilt out;
 static unsigned char *entry;
 
@@ -34,7 +35,7 @@ static void make(unsigned k) {
 static void *run(void *x) {
     unsigned char here;
     entry = &here;
-    out = filterbox_build(list, words, table, 9 * SLOTS, scratch, 1024 * SLOTS);
+    out = filterbox_build(list, words, table, TABLE, scratch, scratch_words);
     return x;
 }
 
@@ -52,6 +53,7 @@ static size_t measure(unsigned k) {
 }
 
 int main(void) {
+    scratch_words = (size_t)SLOTS * filterbox_scratch_words();
     measure(1);
     size_t first = 0, last = 0;
     for (unsigned k = 0; k <= 256; k += k < 8 ? 1 : 31) {

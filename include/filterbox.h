@@ -20,20 +20,30 @@ extern "C" {
 #endif
 
 /* The words of a record, one for each state: kind, field, mask, value, next state if the test holds,
-   if it fails, if the field is absent, then the sure set and the out set (filter i is bit i). */
+   if it fails, if the field is absent, then the sure set and the out set. */
 #define FILTERBOX_RECORD_WORDS 9
 
 /* The most slots that a table has; words behind them are not used. */
 #define FILTERBOX_MOST_SLOTS 4096
 
+/* The most filters of a list, and the most tests of a filter. */
+#define FILTERBOX_MOST_FILTERS 32
+#define FILTERBOX_MOST_TESTS 8
+
+/* The header fields, numbered from 0. */
+#define FILTERBOX_FIELDS 14
+
 /* The longest frame in bytes that is not refused. */
 #define FILTERBOX_MOST_FRAME 1522
+
+/* A set of filters: filter i is bit i. */
+typedef uint32_t FilterboxSet;
 
 /* What building answers. */
 typedef struct FilterboxBuilt {
     uint32_t refusal; /* 0 where the table was built, else 1 to 11 */
-    uint32_t number;  /* the number of states; the filter's number for refusals 1 to 9 (32 for 1);
-                         0 for 10 and 11 */
+    uint32_t number;  /* the number of states; the filter's number for refusals 1 to 9
+                         (FILTERBOX_MOST_FILTERS for 1); 0 for 10 and 11 */
 } FilterboxBuilt;
 
 /* How classifying ended. */
@@ -45,19 +55,21 @@ enum {
 
 /* What classifying answers. */
 typedef struct FilterboxAnswer {
-    uint32_t ended;   /* FILTERBOX_REFUSED, FILTERBOX_DONE or FILTERBOX_STOPPED */
-    uint32_t refusal; /* 0, or 12 or 13 where refused */
-    uint32_t sure;    /* filters that are certainly in the match set */
-    uint32_t out;     /* filters that are certainly not in it */
-    uint32_t asked;   /* the number of questions asked */
+    uint32_t ended;    /* FILTERBOX_REFUSED, FILTERBOX_DONE or FILTERBOX_STOPPED */
+    uint32_t refusal;  /* 0, or 12 or 13 where refused */
+    FilterboxSet sure; /* filters that are certainly in the match set */
+    FilterboxSet out;  /* filters that are certainly not in it */
+    uint32_t asked;    /* the number of questions asked */
 } FilterboxAnswer;
 
 /*
  * Compiles a list into a table.
  *
  * list: for each filter three words (group, level, number of tests), then for each test four words
- * (kind, field, mask, value). At most 32 filters with at most 8 tests each.
- * table: its words divided by 9 are the slots, at most 4,096. Each state takes one slot.
+ * (kind, field, mask, value). At most FILTERBOX_MOST_FILTERS filters with at most
+ * FILTERBOX_MOST_TESTS tests each.
+ * table: its words divided by FILTERBOX_RECORD_WORDS are the slots, at most FILTERBOX_MOST_SLOTS.
+ * Each state takes one slot.
  * scratch: at least filterbox_scratch_words() words for each slot of the table, whether or not the
  * list needs the slot.
  * All lengths are in words.
@@ -66,9 +78,10 @@ typedef struct FilterboxAnswer {
  * records of the states stand at the beginning of the table, and the table words behind them are as
  * before. Or it answers one of these refusals, the first that fits as the list is read:
  *
- *    1  words follow the 32nd filter           2  the list ends inside a filter
- *    3  group or level above 255               4  more than 8 tests in a filter
- *    5  kind not 1 to 4                        6  field above 13
+ *    1  words follow the last of the most filters
+ *    2  the list ends inside a filter          3  group or level above 255
+ *    4  more tests in a filter than the most   5  kind not 1 to 4
+ *    6  no such field: FILTERBOX_FIELDS or above
  *    7  mask 0 with kind 1 or 2, or a mask that is not 0 with kind 3 or 4
  *    8  mask or value above the field's greatest number
  *    9  value with bits outside the mask       10  scratch shorter than the slots need
@@ -93,9 +106,9 @@ FilterboxBuilt filterbox_build(const uint32_t *list, size_t list_len, uint32_t *
  * Answers done or stopped with the two sets and the number of questions asked, or one of these
  * refusals with zeros there:
  *
- *   12  the frame is longer than 1,522 bytes
+ *   12  the frame is longer than FILTERBOX_MOST_FRAME bytes
  *   13  the table is damaged: the number of states is 0 or above the slots, or a record on the way
- *       has a kind above 4, or a field above 13 with a kind that is not 0, or the next state is not
+ *       has a kind above 4, or no such field with a kind that is not 0, or the next state is not
  *       below the number of states
  *
  * A short or odd frame is no refusal; fields that it lacks are absent, and no test on an absent
@@ -108,8 +121,9 @@ FilterboxAnswer filterbox_classify(const uint8_t *frame, size_t frame_len, uint8
 /* What scanning answers. */
 typedef struct FilterboxScanned {
     uint32_t refusal; /* 0, or 1 to 9 or 12 where refused */
-    uint32_t filter;  /* the filter's number for refusals 1 to 9 (32 for 1), else 0 */
-    uint32_t set;     /* the match set; empty where refused */
+    uint32_t filter;  /* the filter's number for refusals 1 to 9 (FILTERBOX_MOST_FILTERS for 1),
+                         else 0 */
+    FilterboxSet set; /* the match set; empty where refused */
 } FilterboxScanned;
 
 /*

@@ -6,12 +6,25 @@
 
 pub use filterbox_sys::{Answer, Built};
 
-/// Kind, field, mask, value, three next states, sure set, out set.
-pub const RECORD: usize = 9;
+// Document 01's numbers, named here for the bench and the stand-in.
 pub const MOST_SLOTS: usize = 4096;
 pub const MOST_FILTERS: usize = 32;
+pub const MOST_FRAME: usize = 1522;
 const MOST_TESTS: usize = 8;
-const TEST: usize = 4;
+/// The greatest group and the greatest level.
+const MOST_GROUP: u32 = 255;
+/// Group, level, number of tests.
+const HEAD: usize = 3;
+/// Kind, field, mask, value.
+pub const TEST: usize = 4;
+/// The places of a record's words behind those of its question: three next states, two sets.
+const HOLDS_AT: usize = TEST;
+const FAILS_AT: usize = 5;
+const ABSENT_AT: usize = 6;
+const SURE_AT: usize = 7;
+const OUT_AT: usize = 8;
+/// The words of a record.
+pub const RECORD: usize = OUT_AT + 1;
 /// The words of a filter in a slot: its remaining tests first, zeros behind.
 const FILTER: usize = MOST_TESTS * TEST;
 /// The words of a slot.
@@ -19,11 +32,12 @@ pub const SLOT: usize = MOST_FILTERS * FILTER;
 /// Stands in the first word of a filter that is out; no kind has this number.
 const OUT: u32 = 5;
 
-const WIDTHS: [u32; 14] = [16, 8, 16, 16, 8, 8, 32, 32, 16, 16, 8, 8, 8, 8];
+const FIELDS: usize = 14;
+const WIDTHS: [u32; FIELDS] = [16, 8, 16, 16, 8, 8, 32, 32, 16, 16, 8, 8, 8, 8];
 
-const EQUAL: u32 = 1;
-const DIFFERS: u32 = 2;
-const AT_MOST: u32 = 3;
+pub const EQUAL: u32 = 1;
+pub const DIFFERS: u32 = 2;
+pub const AT_MOST: u32 = 3;
 const AT_LEAST: u32 = 4;
 
 fn full(field: u32) -> u32 {
@@ -98,26 +112,26 @@ pub fn check(list: &[u32]) -> Result<usize, Built> {
         if filter == MOST_FILTERS {
             return refused(1);
         }
-        if rest.len() < 3 {
+        if rest.len() < HEAD {
             return refused(2);
         }
-        if rest[0] > 255 || rest[1] > 255 {
+        if rest[0] > MOST_GROUP || rest[1] > MOST_GROUP {
             return refused(3);
         }
         if rest[2] > MOST_TESTS as u32 {
             return refused(4);
         }
         let tests = rest[2] as usize;
-        if rest.len() - 3 < tests * TEST {
+        if rest.len() - HEAD < tests * TEST {
             return refused(2);
         }
         for i in 0..tests {
-            let refusal = check_test(&rest[3 + i * TEST..][..TEST]);
+            let refusal = check_test(&rest[HEAD + i * TEST..][..TEST]);
             if refusal != 0 {
                 return refused(refusal);
             }
         }
-        at += 3 + tests * TEST;
+        at += HEAD + tests * TEST;
         filter += 1;
     }
     Ok(filter)
@@ -128,7 +142,7 @@ fn check_test(words: &[u32]) -> u32 {
     if test.kind < EQUAL || test.kind > AT_LEAST {
         return 5;
     }
-    if test.field > 13 {
+    if test.field >= FIELDS as u32 {
         return 6;
     }
     let masked = test.kind <= DIFFERS;
@@ -281,7 +295,7 @@ fn ranks(list: &[u32], filters: usize) -> [u32; MOST_FILTERS] {
     let mut at = 0;
     for head in heads.iter_mut().take(filters) {
         *head = (list[at], list[at + 1]);
-        at += 3 + list[at + 2] as usize * TEST;
+        at += HEAD + list[at + 2] as usize * TEST;
     }
     let mut below = [0; MOST_FILTERS];
     for a in 0..filters {
@@ -300,8 +314,8 @@ impl Builder<'_> {
         let mut at = 0;
         for i in 0..self.filters {
             let words = list[at + 2] as usize * TEST;
-            self.candidate[i * FILTER..][..words].copy_from_slice(&list[at + 3..][..words]);
-            at += 3 + words;
+            self.candidate[i * FILTER..][..words].copy_from_slice(&list[at + HEAD..][..words]);
+            at += HEAD + words;
         }
         self.drop_beaten();
     }
@@ -373,8 +387,8 @@ impl Builder<'_> {
         if let Some(test) = question {
             record[..TEST].copy_from_slice(&[test.kind, test.field, test.mask, test.value]);
         }
-        record[7] = sure;
-        record[8] = out;
+        record[SURE_AT] = sure;
+        record[OUT_AT] = out;
     }
 
     fn state<C: Compare>(&mut self, n: usize) -> Result<(), Full> {
@@ -382,7 +396,7 @@ impl Builder<'_> {
         for way in 0..3 {
             self.step(n, fact(question, way));
             let (next, new) = self.meet::<C>()?;
-            self.table[n * RECORD + 4 + way] = next as u32;
+            self.table[n * RECORD + HOLDS_AT + way] = next as u32;
             if new {
                 self.state::<C>(next)?;
             }
@@ -438,7 +452,7 @@ impl Builder<'_> {
 #[derive(Clone, Copy)]
 pub struct Header {
     pub present: u32,
-    pub values: [u32; 14],
+    pub values: [u32; FIELDS],
 }
 
 /// The number in two bytes.
@@ -447,7 +461,7 @@ fn pair(bytes: &[u8], at: usize) -> u32 {
 }
 
 pub fn read_header(frame: &[u8], port: u8) -> Header {
-    let mut header = Header { present: 1 << 13, values: [0; 14] };
+    let mut header = Header { present: 1 << 13, values: [0; FIELDS] };
     header.values[13] = u32::from(port);
     if frame.len() < 14 {
         return header;
@@ -510,7 +524,7 @@ fn read_transport(header: &mut Header, protocol: u8, part: &[u8]) {
 #[inline(never)]
 pub fn classify(frame: &[u8], port: u8, table: &[u32], states: u32, allowance: u32) -> Answer {
     let refused = |refusal| Answer { ended: 0, refusal, sure: 0, out: 0, asked: 0 };
-    if frame.len() > 1522 {
+    if frame.len() > MOST_FRAME {
         return refused(12);
     }
     if states == 0 || states as usize > (table.len() / RECORD).min(MOST_SLOTS) {
@@ -522,20 +536,20 @@ pub fn classify(frame: &[u8], port: u8, table: &[u32], states: u32, allowance: u
     loop {
         let record = &table[number as usize * RECORD..][..RECORD];
         let test = Test::from(record);
-        if test.kind > AT_LEAST || test.kind != 0 && test.field > 13 {
+        if test.kind > AT_LEAST || test.kind != 0 && test.field >= FIELDS as u32 {
             return refused(13);
         }
         if test.kind == 0 || asked == allowance {
             let ended = if test.kind == 0 { 1 } else { 2 };
-            return Answer { ended, refusal: 0, sure: record[7], out: record[8], asked };
+            return Answer { ended, refusal: 0, sure: record[SURE_AT], out: record[OUT_AT], asked };
         }
         let field = test.field as usize;
         let next = if header.present >> field & 1 == 0 {
-            record[6]
+            record[ABSENT_AT]
         } else if test.of(header.values[field]) {
-            record[4]
+            record[HOLDS_AT]
         } else {
-            record[5]
+            record[FAILS_AT]
         };
         if next >= states {
             return refused(13);

@@ -1,7 +1,7 @@
 //! Ordinary optimised scanners: the header is read once, then each filter is asked in turn. What the
 //! walk through a table is held against.
 
-use crate::plain::{read_header, Header};
+use crate::plain::{read_header, Header, AT_MOST, DIFFERS, EQUAL, TEST};
 
 #[derive(Clone, Copy)]
 enum Kind {
@@ -22,9 +22,9 @@ struct Test {
 impl Test {
     fn from(words: &[u32]) -> Test {
         let kind = match words[0] {
-            1 => Kind::Equal,
-            2 => Kind::Differs,
-            3 => Kind::AtMost,
+            EQUAL => Kind::Equal,
+            DIFFERS => Kind::Differs,
+            AT_MOST => Kind::AtMost,
             _ => Kind::AtLeast,
         };
         Test { kind, field: words[1] as u8, mask: words[2], value: words[3] }
@@ -57,8 +57,8 @@ fn filters(list: &[u32]) -> Vec<Filter> {
     let mut filters = Vec::new();
     let mut rest = list;
     while let [group, level, tests, behind @ ..] = rest {
-        let (words, behind) = behind.split_at(4 * *tests as usize);
-        let tests = words.chunks_exact(4).map(Test::from).collect();
+        let (words, behind) = behind.split_at(TEST * *tests as usize);
+        let tests = words.chunks_exact(TEST).map(Test::from).collect();
         filters.push(Filter { group: *group, level: *level, tests });
         rest = behind;
     }

@@ -9,13 +9,14 @@
 use crate::fields::{full, Readings};
 use crate::residue::{fact, residue, Left, Outcome};
 use crate::rules::{above, Filter, Test};
+use crate::sizes::Set;
 
 /// A place on a frame's path: the sets there, and what is asked there with how it ends, or none
 /// where the path ends.
 #[derive(Clone, Copy, PartialEq, Eq, Debug)]
 pub struct Point {
-    pub sure: u32,
-    pub out: u32,
+    pub sure: Set,
+    pub out: Set,
     pub asked: Option<(Test, Outcome)>,
 }
 
@@ -70,7 +71,7 @@ fn all_true(tests: &[Left]) -> bool {
     tests.iter().all(|left| *left == Left::True)
 }
 
-fn out_set(filters: &[Filter], remains: &Remains) -> u32 {
+fn out_set(filters: &[Filter], remains: &Remains) -> Set {
     (0..filters.len())
         .filter(|&i| {
             remains[i].contains(&Left::False)
@@ -79,7 +80,7 @@ fn out_set(filters: &[Filter], remains: &Remains) -> u32 {
         .fold(0, |set, i| set | 1 << i)
 }
 
-fn sure_set(filters: &[Filter], remains: &Remains, out: u32) -> u32 {
+fn sure_set(filters: &[Filter], remains: &Remains, out: Set) -> Set {
     let is_out = |i: usize| out >> i & 1 == 1;
     (0..filters.len())
         .filter(|&i| !is_out(i) && all_true(&remains[i]))
@@ -88,7 +89,7 @@ fn sure_set(filters: &[Filter], remains: &Remains, out: u32) -> u32 {
 }
 
 /// The first remaining test of the first filter that has any and is not out.
-fn question(remains: &Remains, out: u32) -> Option<Test> {
+fn question(remains: &Remains, out: Set) -> Option<Test> {
     (0..remains.len()).filter(|&i| out >> i & 1 == 0).flat_map(|i| &remains[i]).find_map(|left| {
         match left {
             Left::Test(test) => Some(*test),

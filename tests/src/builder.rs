@@ -7,15 +7,12 @@ use std::collections::HashMap;
 /// or 0.
 pub use filterbox_sys::Built;
 
+pub use crate::sizes::{MOST_SCRATCH_WORDS, MOST_SLOTS, RECORD_WORDS};
+
 use crate::fields::full;
 use crate::residue::{fact, residue, Fact, Left, OUTCOMES};
 use crate::rules::{above, read_list, Filter, Test};
-
-/// Kind, field, mask, value, three next states, sure set, out set.
-pub const RECORD_WORDS: usize = 9;
-pub const MOST_SLOTS: usize = 4096;
-/// The most scratch words that a slot may take.
-pub const MOST_SCRATCH_WORDS: usize = 1024;
+use crate::sizes::{Set, HOLDS_AT, OUT_AT, SURE_AT, TEST_WORDS};
 
 pub type Record = [u32; RECORD_WORDS];
 
@@ -77,16 +74,16 @@ impl Building<'_> {
             return None;
         }
         let mut record = [0; RECORD_WORDS];
-        record[7] = sure_set(self.filters, &state);
-        record[8] = out_set(&state);
+        record[SURE_AT] = sure_set(self.filters, &state);
+        record[OUT_AT] = out_set(&state);
         self.records.push(record);
         self.numbers.insert(state.clone(), number as u32);
         if let Some(question) = question(&state) {
-            self.records[number][..4].copy_from_slice(&question.words());
+            self.records[number][..TEST_WORDS].copy_from_slice(&question.words());
             for (way, outcome) in OUTCOMES.into_iter().enumerate() {
                 let learnt = fact(question, outcome, full(question.field));
                 let next = self.state(step(self.filters, &state, learnt))?;
-                self.records[number][4 + way] = next;
+                self.records[number][HOLDS_AT + way] = next;
             }
         }
         Some(number as u32)
@@ -139,12 +136,12 @@ pub fn question(state: &State) -> Option<Test> {
     state.iter().flatten().find_map(|tests| tests.first().copied())
 }
 
-pub fn out_set(state: &State) -> u32 {
+pub fn out_set(state: &State) -> Set {
     (0..state.len()).filter(|&i| state[i].is_none()).fold(0, |set, i| set | 1 << i)
 }
 
 /// Each held filter above which all are out.
-pub fn sure_set(filters: &[Filter], state: &State) -> u32 {
+pub fn sure_set(filters: &[Filter], state: &State) -> Set {
     (0..state.len())
         .filter(|&i| held(&state[i]))
         .filter(|&i| (0..state.len()).all(|j| !above(filters, j, i) || state[j].is_none()))

@@ -10,6 +10,7 @@ use crate::fields::read;
 use crate::frames::Frame;
 use crate::rules::{tests, words, Filter};
 use crate::scanner::match_set;
+use crate::sizes::Set;
 use crate::walker::{Answer, DONE, STOPPED};
 
 /// A list and a frame, as a failing case prints them.
@@ -33,12 +34,12 @@ fn expected(points: &[Point], allowance: u32) -> Answer {
 }
 
 /// The set of all filters of a list.
-fn every(filters: &[Filter]) -> u32 {
+fn every(filters: &[Filter]) -> Set {
     filters.iter().enumerate().fold(0, |set, (i, _)| set | 1 << i)
 }
 
 /// What must be so of a path whatever the residue rules say in detail.
-fn check_path(filters: &[Filter], points: &[Point], matches: u32) -> Result<(), String> {
+fn check_path(filters: &[Filter], points: &[Point], matches: Set) -> Result<(), String> {
     let questions: Vec<_> = points.iter().filter_map(|point| point.asked).collect();
     if questions.len() > tests(filters) {
         return Err(format!("{} questions on a path", questions.len()));

@@ -1,5 +1,6 @@
 //! Lists with known answers: document 01's example, and lists whose states can be counted by hand.
 
+use crate::builder::Record;
 use crate::rules::{Filter, Test, AT_LEAST, AT_MOST, DIFFERS, EQUAL, MOST_FILTERS, MOST_TESTS};
 
 /// Document 01's example: echo request; echo reply with time to live 1; time to live 1.
@@ -7,7 +8,7 @@ pub const ECHO: [u32; 25] =
     [1, 0, 1, 1, 11, 255, 8, 2, 0, 2, 1, 11, 255, 0, 1, 4, 255, 1, 3, 0, 1, 1, 4, 255, 1];
 
 /// The records that document 01 prints for it.
-pub const ECHO_RECORDS: [[u32; 9]; 10] = [
+pub const ECHO_RECORDS: [Record; 10] = [
     [1, 11, 255, 8, 1, 4, 8, 0, 0],
     [1, 4, 255, 1, 2, 3, 3, 1, 2],
     [0, 0, 0, 0, 0, 0, 0, 5, 2],

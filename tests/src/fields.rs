@@ -1,10 +1,6 @@
 //! What a frame's header fields are (document 01, "Fields", mended by document 02, P2).
 
-/// How many fields there are.
-pub const FIELDS: usize = 14;
-
-/// The bits of each field, by its number.
-pub const WIDTHS: [u32; FIELDS] = [16, 8, 16, 16, 8, 8, 32, 32, 16, 16, 8, 8, 8, 8];
+pub use crate::sizes::{FIELDS, WIDTHS};
 
 /// The fields' names, for reports.
 pub const NAMES: [&str; FIELDS] = [

@@ -4,6 +4,7 @@
 //! are proved: where both readings agree on many inputs, a slip in one of them would have to be
 //! made twice.
 //!
+//! - `sizes`: document 01's numbers
 //! - `fields`: what a frame's header fields are
 //! - `rules`: a run of words as a list of filters, refusals 1 to 9, ranks
 //! - `scanner`: the match set, by asking every filter in turn
@@ -44,5 +45,6 @@ pub mod residue;
 pub mod rules;
 pub mod runner;
 pub mod scanner;
+pub mod sizes;
 pub mod tools;
 pub mod walker;

@@ -1,21 +1,12 @@
 //! A run of words as a list of filters: tests, ranks, refusals 1 to 9
 //! (document 01, "Tests, filters, ranks" and "Refusal numbers").
 
+pub use crate::sizes::{
+    AT_LEAST, AT_MOST, DIFFERS, EQUAL, FILTER_WORDS, MOST_FILTERS, MOST_GROUP, MOST_TESTS,
+    TEST_WORDS,
+};
+
 use crate::fields::{full, FIELDS};
-
-pub const MOST_FILTERS: usize = 32;
-pub const MOST_TESTS: u32 = 8;
-/// The greatest group and the greatest level.
-pub const MOST_GROUP: u32 = 255;
-/// Group, level, number of tests.
-pub const FILTER_WORDS: usize = 3;
-/// Kind, field, mask, value.
-pub const TEST_WORDS: usize = 4;
-
-pub const EQUAL: u32 = 1;
-pub const DIFFERS: u32 = 2;
-pub const AT_MOST: u32 = 3;
-pub const AT_LEAST: u32 = 4;
 
 /// A test in the order of its words.
 #[derive(Clone, Copy, PartialEq, Eq, Hash, Debug)]

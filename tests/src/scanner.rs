@@ -10,7 +10,7 @@ use crate::builder::Built;
 use crate::fields::{read, Readings};
 use crate::frames::Frame;
 use crate::rules::{above, Filter, Test};
-use crate::walker::MOST_FRAME;
+use crate::sizes::{Set, MOST_FRAME};
 
 /// Whether a test holds of a frame's readings; on an absent field none does.
 pub fn test_holds(test: &Test, readings: &Readings) -> bool {
@@ -23,7 +23,7 @@ pub fn filter_holds(filter: &Filter, readings: &Readings) -> bool {
 }
 
 /// Each filter that holds while none ranking above it does, as a bit set.
-pub fn match_set(filters: &[Filter], readings: &Readings) -> u32 {
+pub fn match_set(filters: &[Filter], readings: &Readings) -> Set {
     let holding: Vec<usize> =
         (0..filters.len()).filter(|&i| filter_holds(&filters[i], readings)).collect();
     holding

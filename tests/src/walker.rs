@@ -3,12 +3,12 @@
 
 pub use filterbox_sys::Answer;
 
+pub use crate::sizes::MOST_FRAME;
+
 use crate::builder::{slots, RECORD_WORDS};
 use crate::fields::{read, FIELDS};
 use crate::rules::{Test, AT_LEAST};
-
-/// The longest frame that is not refused.
-pub const MOST_FRAME: usize = 1522;
+use crate::sizes::{ABSENT_AT, FAILS_AT, HOLDS_AT, OUT_AT, SURE_AT};
 
 pub const REFUSED: u32 = 0;
 pub const DONE: u32 = 1;
@@ -39,12 +39,12 @@ pub fn classify(frame: &[u8], port: u8, table: &[u32], states: u32, allowance: u
         }
         if final_state || asked == allowance {
             let ended = if final_state { DONE } else { STOPPED };
-            return Answer { ended, refusal: 0, sure: record[7], out: record[8], asked };
+            return Answer { ended, refusal: 0, sure: record[SURE_AT], out: record[OUT_AT], asked };
         }
         let way = match readings[question.field as usize] {
-            None => 6,
-            Some(x) if question.of(x) => 4,
-            Some(_) => 5,
+            None => ABSENT_AT,
+            Some(x) if question.of(x) => HOLDS_AT,
+            Some(_) => FAILS_AT,
         };
         if record[way] >= states {
             return refused(13);

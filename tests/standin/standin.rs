@@ -7,7 +7,7 @@ mod plain;
 mod scanner;
 
 use filterbox_sys::Scanned;
-use plain::{Answer, Built, WordByWord, SLOT};
+use plain::{Answer, Built, WordByWord, MOST_FRAME, SLOT};
 use scanner::InTurn;
 use std::slice::{from_raw_parts, from_raw_parts_mut};
 
@@ -65,7 +65,7 @@ pub unsafe extern "C" fn filterbox_scan(
     if let Err(built) = plain::check(list) {
         return refused(built.refusal, built.number);
     }
-    if frame.len() > 1522 {
+    if frame.len() > MOST_FRAME {
         return refused(12, 0);
     }
     Scanned { refusal: 0, filter: 0, set: InTurn::new(list).scan_in_turn(frame, port) }

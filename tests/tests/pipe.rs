@@ -66,7 +66,7 @@ fn one_case(case: usize) {
     let filters = list(random, style);
     let slots = random.between(1, 60);
     let (table, scratch) =
-        (slots * RECORD_WORDS + random.below(9), slots * library().scratch_words());
+        (slots * RECORD_WORDS + random.below(RECORD_WORDS), slots * library().scratch_words());
     let (built, table) = build(place, &words(&filters), table, scratch + random.below(3));
     for _ in 0..3 {
         let frame = towards(random, &filters);

@@ -17,9 +17,9 @@ use Rattle.machine.specs.inner.Slots.{slotsIn}
 use Rattle.automaton.specs.Machines.{Machine, meets, placeOf}
 use Rattle.automaton.specs.laws.Lists.{Begins, begins-refl, begins-append, begins-trans}
 use Rattle.automaton.specs.laws.Places.{meets-append, place-begins}
-use Rattle.builder.specs.inner.Memory.{slotAt, statesIn, foundIn}
+use Rattle.builder.specs.inner.Memory.{slotAt, statesIn, soughtIn}
 use Rattle.builder.specs.laws.WaysPlaced.{length-states}
-use Rattle.builder.specs.declared.Found.the-variants as F
+use Rattle.builder.specs.declared.Sought.the-variants as F
 
 -- The part of the slots that a call is lent is the state there.
 pub slot-part : (n i : ℕ) (s : List ℕ) → take (slotWords * i + filterSlot * n - slotWords * i) (drop (slotWords * i) s) ≡ slotAt n s i
@@ -100,8 +100,8 @@ pub unmet-more : (n i : ℕ) (s c : List ℕ) → Unmet n i s c → false ≡ sa
 unmet-more n i s c none e ranks = meets-next n i s c ranks none ∙ sym e
 
 pub found-at : (n i used : ℕ) (s c : List ℕ) → i < used → Unmet n i s c → true ≡ sameWords (slotAt n s i) c
-    → (ranks : List ℕ) → F.At i ≡ foundIn n ranks (statesIn n used s) c
-unfolding foundIn
+    → (ranks : List ℕ) → F.At i ≡ soughtIn n ranks (statesIn n used s) c
+unfolding soughtIn
 found-at n i used s c h none e ranks =
     let M = slotsIn n ranks in
     let begins = states-begin n (i + 1) used s (omega arith) in
@@ -115,8 +115,8 @@ found-at n i used s c h none e ranks =
     ∙ ap (λ (k : ℕ). F.At k) place)
 
 pub found-nothing : (n i used : ℕ) (s c : List ℕ) → i ≤ used → used ≤ i → Unmet n i s c
-    → (ranks : List ℕ) → F.Nothing ≡ foundIn n ranks (statesIn n used s) c
-unfolding foundIn
+    → (ranks : List ℕ) → F.Nothing ≡ soughtIn n ranks (statesIn n used s) c
+unfolding soughtIn
 found-nothing n i used s c h k none ranks =
     let M = slotsIn n ranks in
     let same : i ≡ used = omega arith in

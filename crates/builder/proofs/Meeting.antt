@@ -16,11 +16,11 @@ use Rattle.slots.specs.inner.Steps.{Stepped}
 use Rattle.machine.specs.inner.Slots.{slotsIn}
 use Rattle.automaton.specs.Machines.{meets, placeOf}
 use Rattle.automaton.specs.laws.Places.{place-below}
-use Rattle.builder.specs.inner.Memory.{slotAt, statesIn, foundIn}
+use Rattle.builder.specs.inner.Memory.{slotAt, statesIn, soughtIn}
 use Rattle.builder.specs.laws.WaysPlaced.{length-states}
 use Rattle.builder.specs.inner.Promises.{Ready, Search, Store, Stored, Meeting}
-use Rattle.builder.specs.declared.Found.{Found}
-use Rattle.builder.specs.declared.Found.the-variants as F
+use Rattle.builder.specs.declared.Sought.{Sought}
+use Rattle.builder.specs.declared.Sought.the-variants as F
 use Rattle.builder.specs.declared.Met.the-variants as M
 use Rattle.builder.proofs.Finding.{slot-part}
 
@@ -99,11 +99,11 @@ module _ (n slots : ℕ) (ranks : List ℕ) (at used : ℕ) (t s : List ℕ) whe
 
 -- ---- the answers
 
-placeIn : Found → ℕ
+placeIn : Sought → ℕ
 placeIn (F.At i) = i
 placeIn F.Nothing = 0
 
-stands : Found → Bool
+stands : Sought → Bool
 stands (F.At i) = true
 stands F.Nothing = false
 
@@ -117,13 +117,13 @@ unfolding stands
 found-new true k e = absurd (false≢true (ap stands e))
 found-new false k e = refl
 
-module _ (n slots : ℕ) (ranks : List ℕ) (used : ℕ) (t s c c' : List ℕ) (is : c ≡ c') (r : Found)
-    (found : (ranks : List ℕ) → r ≡ foundIn n ranks (statesIn n used s) c) where
-  answer : r ≡ foundIn n ranks (statesIn n used s) c'
-  answer = found ranks ∙ ap (λ (w : List ℕ). foundIn n ranks (statesIn n used s) w) is
+module _ (n slots : ℕ) (ranks : List ℕ) (used : ℕ) (t s c c' : List ℕ) (is : c ≡ c') (r : Sought)
+    (found : (ranks : List ℕ) → r ≡ soughtIn n ranks (statesIn n used s) c) where
+  answer : r ≡ soughtIn n ranks (statesIn n used s) c'
+  answer = found ranks ∙ ap (λ (w : List ℕ). soughtIn n ranks (statesIn n used s) w) is
 
   pub met-old : (i : ℕ) → r ≡ F.At i → Meeting n slots ranks used t s c' (M.Old i) t s
-  unfolding foundIn
+  unfolding soughtIn
   met-old i e =
       let old = found-old (meets (slotsIn n ranks) (statesIn n used s) c') (placeOf (slotsIn n ranks) (statesIn n used s) c') i (sym e ∙ answer) in
       let below = place-below (slotsIn n ranks) (statesIn n used s) c' (old .0) in
@@ -132,7 +132,7 @@ module _ (n slots : ℕ) (ranks : List ℕ) (used : ℕ) (t s c c' : List ℕ) (
       (old .0, place, omega arith, refl, refl)
 
   unmet : r ≡ F.Nothing → meets (slotsIn n ranks) (statesIn n used s) c' ≡ false
-  unfolding foundIn
+  unfolding soughtIn
   unmet e = found-new (meets (slotsIn n ranks) (statesIn n used s) c') (placeOf (slotsIn n ranks) (statesIn n used s) c') (sym e ∙ answer)
 
   pub met-slotless : r ≡ F.Nothing → used ≡ slots → Meeting n slots ranks used t s c' M.Slotless t s

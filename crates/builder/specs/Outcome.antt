@@ -1,6 +1,5 @@
 -- Document 01, "Refusal numbers" and "States and the table", last paragraph: what building answers and leaves.
---   Shown           whether it was built (1 built, 0 refused), the refusal's number or 0, the number of states or the filter's number
---   shown b         document 01's numbers for each case of the enum Built
+--   refusalOf b, numberOf b   document 01's numbers for each case of the enum Built: the refusal's or 0; the number of states or the filter's
 --   Left            the answer, every word of the table and every word of the scratch afterwards
 --   Answered        an answer and the words afterwards are those of an outcome
 --   outcome l t s   what building the list l in the table t with the scratch s comes to
@@ -21,17 +20,16 @@ use Rattle.machine.specs.Box.{statesOf, recordsIn}
 use Rattle.builder.specs.declared.Built.{Built}
 use Rattle.builder.specs.declared.Built.the-variants as B
 
-pub record Shown : Type 0 where
-  pub built : ℕ
-  pub refusal : ℕ
-  pub number : ℕ
+abbrev pub refusalOf : Built → ℕ
+refusalOf (B.States n) = 0
+refusalOf (B.Refused r i) = r
 
-abbrev pub shown : Built → Shown
-shown (B.States n) = record { built = 1; refusal = 0; number = n }
-shown (B.Refused r i) = record { built = 0; refusal = r; number = i }
+abbrev pub numberOf : Built → ℕ
+numberOf (B.States n) = n
+numberOf (B.Refused r i) = i
 
 pub record Left : Type 0 where
-  pub answer : Shown
+  pub answer : Built
   pub table : List ℕ
   pub scratch : List ℕ
 
@@ -44,36 +42,36 @@ scratchWords t = slotWords * slotsOf t
 
 -- Refusals 1 to 10 change no word.
 unfoldable pub refused : ℕ → ℕ → List ℕ → List ℕ → Left
-refused r i t s = record { answer = record { built = 0; refusal = r; number = i }; table = t; scratch = s }
+refused r i t s = record { answer = B.Refused r i; table = t; scratch = s }
 
 -- Refusal 11 leaves zeros in all slots; the words behind them stay.
 unfoldable pub noRoom : List ℕ → List ℕ → Left
 noRoom t s =
-    record { answer = record { built = 0; refusal = 11; number = 0 }; table = cleared (tableWords t) t; scratch = cleared (scratchWords t) s }
+    record { answer = B.Refused 11 0; table = cleared (tableWords t) t; scratch = cleared (scratchWords t) s }
 
 -- Success leaves the records, and every table word after them as before.
 unfoldable pub placed : List Filter → List ℕ → List ℕ → Left
 placed fs t s =
     record {
-      answer = record { built = 1; refusal = 0; number = length (statesOf fs) };
+      answer = B.States (length (statesOf fs));
       table = recordsIn fs ++ drop (length (recordsIn fs)) t;
       scratch = cleared (scratchWords t) s;
     }
 
 -- 10, then 11, else the states.
-unfoldable pub accepted : List Filter → List ℕ → List ℕ → Left
-accepted fs t s =
+unfoldable pub byRoom : List Filter → List ℕ → List ℕ → Left
+byRoom fs t s =
     cond (ltb (length s) (scratchWords t)) (refused 10 0 t s)
     (cond (ltb (slotsOf t) (length (statesOf fs))) (noRoom t s) (placed fs t s))
 
 unfoldable pub outcomeBy : Listed → List ℕ → List ℕ → List ℕ → Left
 outcomeBy (L.Refused r i) l t s = refused r i t s
-outcomeBy (L.Accepted n k) l t s = accepted (filtersOf l) t s
+outcomeBy (L.Accepted n k) l t s = byRoom (filtersOf l) t s
 
 unfoldable pub outcome : List ℕ → List ℕ → List ℕ → Left
 outcome l t s = outcomeBy (listed l) l t s
 
 pub record Answered (l : Left) (b : Built) (t s : List ℕ) : Type 0 where
-  pub answer : shown b ≡ l .answer
+  pub answer : b ≡ l .answer
   pub table : t ≡ l .table
   pub scratch : s ≡ l .scratch

@@ -8,7 +8,7 @@ ghost use Prim.Native.Nat.{ℕ};
 ghost use Rattle.lists.specs.Filters.{filtersOf};
 ghost use Rattle.lists.specs.Refusals.{listed};
 ghost use Rattle.lists.specs.declared.Listed.the-variants.{Accepted};
-ghost use Rattle.builder.specs.Outcome.{Answered, accepted, outcome};
+ghost use Rattle.builder.specs.Outcome.{Answered, byRoom, outcome};
 
 mod meet;
 mod place;
@@ -27,7 +27,7 @@ pub enum Extent {
 }
 
 // Where a state stands among those met.
-pub enum Found {
+pub enum Sought {
     At(usize),
     Nothing,
 }
@@ -42,7 +42,7 @@ pub enum Met {
 // Compiles an accepted list of n filters.
 fn build_accepted(list: &[u32], n: usize, table: &mut [u32], scratch: &mut [u32]) -> Built
     requires { ⌜ ((k : ℕ) × (listed (now list) ≡ Accepted n k)) ⌝ }
-    ensures { λ r. ⌜ Answered (accepted (filtersOf (now (list .entry))) (now (table .entry)) (now (scratch .entry))) r (now (table .exit)) (now (scratch .exit)) ⌝ }
+    ensures { λ r. ⌜ Answered (byRoom (filtersOf (now (list .entry))) (now (table .entry)) (now (scratch .entry))) r (now (table .exit)) (now (scratch .exit)) ⌝ }
 {
     let slots = tables::slots_of(table.len());
     if scratch.len() < SLOT_WORDS * slots {

@@ -1,6 +1,6 @@
 // The state that an outcome leads to is looked for among those met, and stored where it is new.
-use crate::Found;
 use crate::Met;
+use crate::Sought;
 use residue::Outcome;
 use slots::FILTER_WORDS;
 use slots::SLOT_WORDS;
@@ -12,24 +12,24 @@ ghost use lib.ListN.{length};
 ghost use Rattle.slots.specs.Words.{filterSlot};
 ghost use Rattle.slots.specs.inner.Slots.{stepWords, asksIn};
 ghost use Rattle.slots.specs.inner.Steps.{Stepped};
-ghost use Rattle.builder.specs.inner.Memory.{slotAt, statesIn, foundIn};
+ghost use Rattle.builder.specs.inner.Memory.{slotAt, statesIn, soughtIn};
 ghost use Rattle.builder.specs.inner.Promises.{Ready, Held, Search, Store, Stored, Meeting};
 
 // Where the candidate stands among the states of the slots used, if it does.
-fn find(scratch: &[u32], n: usize, used: usize, candidate: &[u32]) -> Found
+fn find(scratch: &[u32], n: usize, used: usize, candidate: &[u32]) -> Sought
     requires { ⌜ Search n used (now scratch) (now candidate) ⌝ }
-    ensures { λ r. ⌜ ((ranks : List ℕ) → r ≡ foundIn n ranks (statesIn n used (now (scratch .entry))) (now (candidate .entry))) ⌝ }
+    ensures { λ r. ⌜ ((ranks : List ℕ) → r ≡ soughtIn n ranks (statesIn n used (now (scratch .entry))) (now (candidate .entry))) ⌝ }
 {
     let width = FILTER_WORDS * n;
     let mut i: usize = 0;
     while i < used {
         let at = SLOT_WORDS * i;
         if slots::same(&scratch[at..at + width], candidate) {
-            return Found::At(i);
+            return Sought::At(i);
         }
         i += 1;
     }
-    Found::Nothing
+    Sought::Nothing
 }
 
 // Stores the candidate in the next slot, and its record behind those already placed.
@@ -97,8 +97,8 @@ pub fn meet(
     );
     let candidate = &words[..width];
     match find(scratch, n, used, candidate) {
-        Found::At(number) => Met::Old(number),
-        Found::Nothing => {
+        Sought::At(number) => Met::Old(number),
+        Sought::Nothing => {
             if used == slots {
                 return Met::Slotless;
             }

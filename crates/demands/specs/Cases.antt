@@ -1,9 +1,9 @@
 -- Document 01, "Numbers to try": every case marked (P), in the document's order, as one list and one statement. The two lists in one group, not marked, come last.
 --   sameResidue a b    a and b are the same residue
 --   gives f k t d      the case that the fact k leaves d of the test t, on a field whose greatest number is f
---   sameShown a b      a and b have the same numbers
+--   sameAnswer a b     a and b are the same answer, by what they found
 --   echoFrame          an echo request with TTL 1, of 42 bytes: Ethernet, an IP header of 20 bytes, ICMP
---   answers a w        the case that this frame, walked through the records of the echo list with the allowance a, shows w
+--   answers a w        the case that this frame, walked through the records of the echo list with the allowance a, is answered by w
 --   markedCases more   the twelve cases, each whether a definition gives what the document says; the last has the allowance 2 + more
 --   allRight cs        every case of a list is right
 use Prim.Native.Nat.{ℕ, zero, suc, _+_}
@@ -14,7 +14,7 @@ use mathlib.Core.List.{List, [], _∷_}
 use lib.Dec.{eqb}
 use Rattle.residue.specs.Tests as T
 use Rattle.residue.specs.Residues as D
-use Rattle.residue.specs.Relations as E
+use Rattle.residue.specs.inner.Relations as E
 use Rattle.residue.specs.declared.Test.{Test}
 use Rattle.residue.specs.declared.Test.the-variants.{Equal, Differs, AtLeast}
 use Rattle.residue.specs.declared.Fact.{Fact}
@@ -33,6 +33,9 @@ use Rattle.lists.specs.Ranks as R
 use Rattle.tables.specs.Tables as B
 use Rattle.machine.specs.Box.{recordsIn}
 use Rattle.machine.specs.Cases.{echoIn, echo, echoTable, echo-records}
+use Rattle.matcher.specs.declared.Found.{Found}
+use Rattle.matcher.specs.declared.Answer.{Answer}
+use Rattle.matcher.specs.declared.Answer.the-variants.{Done, Stopped, Refused}
 use Rattle.matcher.specs.Walk as W
 
 unfoldable pub sameResidue : Residue → Residue → Bool
@@ -49,9 +52,19 @@ sameResidue (Left t) (Left u) = E.sameTest t u
 unfoldable pub gives : ℕ → Fact → Test → Residue → Bool
 gives full k t d = sameResidue (D.residueBy full k t) d
 
-unfoldable pub sameShown : W.Shown → W.Shown → Bool
-sameShown a b =
-    eqb (a .ended) (b .ended) && eqb (a .refusal) (b .refusal) && eqb (a .sure) (b .sure) && eqb (a .out) (b .out) && eqb (a .asked) (b .asked)
+unfoldable pub sameFound : Found → Found → Bool
+sameFound x y = eqb (x .sure) (y .sure) && eqb (x .out) (y .out) && eqb (x .asked) (y .asked)
+
+unfoldable pub sameAnswer : Answer → Answer → Bool
+sameAnswer (Done x) (Done y) = sameFound x y
+sameAnswer (Done x) (Stopped y) = false
+sameAnswer (Done x) (Refused m) = false
+sameAnswer (Stopped x) (Done y) = false
+sameAnswer (Stopped x) (Stopped y) = sameFound x y
+sameAnswer (Stopped x) (Refused m) = false
+sameAnswer (Refused n) (Done y) = false
+sameAnswer (Refused n) (Stopped y) = false
+sameAnswer (Refused n) (Refused m) = eqb n m
 
 unfoldable pub echoFrame : List ℕ
 echoFrame =
@@ -59,8 +72,8 @@ echoFrame =
     0x45 ∷ 0 ∷ 0 ∷ 28 ∷ 0 ∷ 0 ∷ 0 ∷ 0 ∷ 1 ∷ 1 ∷ 0 ∷ 0 ∷ 10 ∷ 0 ∷ 0 ∷ 1 ∷ 10 ∷ 0 ∷ 0 ∷ 2 ∷
     8 ∷ 0 ∷ 0 ∷ 0 ∷ 0 ∷ 1 ∷ 0 ∷ 1 ∷ []
 
-unfoldable pub answers : ℕ → W.Shown → Bool
-answers a w = sameShown (W.walk echoFrame 0 (recordsIn (L.filtersOf echo)) 10 a) w
+unfoldable pub answers : ℕ → Answer → Bool
+answers a w = sameAnswer (W.walk echoFrame 0 (recordsIn (L.filtersOf echo)) 10 a) w
 
 unfoldable pub markedCases : ℕ → List Bool
 markedCases more =
@@ -73,9 +86,9 @@ markedCases more =
     ∷ gives 255 (Known (Equal 0xF0 0x70)) (AtLeast 128) False
     ∷ gives 255 (Known (AtLeast 31)) (Equal 0xF0 0x10) (Left (Equal 0xF0 0x10))
     ∷ gives 255 (Known (AtLeast 32)) (Equal 0xF0 0x10) False
-    ∷ answers 0 (W.stopped 0 0 0)
-    ∷ answers 1 (W.stopped 1 2 1)
-    ∷ answers (2 + more) (W.done 5 2 2)
+    ∷ answers 0 (Stopped (record { sure = 0; out = 0; asked = 0 }))
+    ∷ answers 1 (Stopped (record { sure = 1; out = 2; asked = 1 }))
+    ∷ answers (2 + more) (Done (record { sure = 5; out = 2; asked = 2 }))
     ∷ []
 
 unfoldable pub allRight : List Bool → Bool
@@ -86,7 +99,7 @@ pub marked-cases : (more : ℕ) → allRight (markedCases more) ≡ true
 unfolding
     allRight markedCases gives sameResidue E.sameTest E.equalOf E.differsOf E.atMostOf E.atLeastOf
     D.residueBy D.fromEqual D.fromMasked D.reducedEqual D.reducedDiffers D.fromDiffers D.fromAtMost D.fromAtLeast D.covers D.outside D.settled
-    answers sameShown echoFrame echoTable W.walk W.walkFrom W.arrive W.onward W.damaged W.nextOf W.nextBy B.slotsOf B.wordOf L.testOf T.holds
+    answers sameAnswer sameFound echoFrame echoTable W.walk W.walkFrom W.foundAt W.arrive W.onward W.damaged W.nextOf W.nextBy B.slotsOf B.wordOf B.sureSetAt B.outSetAt B.setAt L.testOf T.holds
     F.field F.readings F.puts P.putAll Y.two Y.four N.ethernet I.internet I.internetPuts I.version I.headerLength I.totalLength I.protocol I.transport I.transportStart
     I.transportEnd X.transportPuts
 marked-cases zero = rw echo-records

@@ -28,10 +28,11 @@ use Rattle.automaton.specs.Lawful.{Reached, Distinct}
 use Rattle.tables.specs.Tables.{slotsOf}
 use Rattle.machine.specs.Box.{boxOf, statesOf}
 use Rattle.machine.specs.laws.Lawful.{states-distinct, states-reached, reached-states}
-use Rattle.matcher.specs.Walk.{Shown, walk}
+use Rattle.matcher.specs.declared.Answer.{Answer}
+use Rattle.matcher.specs.Walk.{found, isDone, walk}
 use Rattle.scanner.specs.Scan.{scanned}
 use Rattle.scanner.specs.declared.Scanned.the-variants.{Matched}
-use Rattle.builder.specs.Outcome.{Left, scratchWords, outcome}
+use Rattle.builder.specs.Outcome.{refusalOf, numberOf, Left, scratchWords, outcome}
 use Rattle.labels.specs.Labels.{shownAt, Legal}
 use Rattle.demands.specs.laws.Builds.{build-full, build-fits}
 use Rattle.demands.specs.laws.Settled.{exact, all-done, all-matches, all-scanned, open-so, sure-so, out-so, sure-kept, out-kept, none-left, asked-few}
@@ -45,16 +46,16 @@ module _ (l t s : List ℕ) where
   b = outcome l t s
 
   -- A list that is built, and a frame that is not refused.
-  module _ (built : b .answer .refusal ≡ 0) (f : List ℕ) (p : ℕ) (legal : Legal f p) where
-    abbrev w : ℕ → Shown
-    w a = walk f p (b .table) (b .answer .number) a
+  module _ (built : refusalOf (b .answer) ≡ 0) (f : List ℕ) (p : ℕ) (legal : Legal f p) where
+    abbrev w : ℕ → Answer
+    w a = walk f p (b .table) (numberOf (b .answer)) a
 
     -- Demand 2: with an allowance of the list's tests the walk is done, and a filter is sure exactly where it is in the match set.
-    pub demand-2 : (a : ℕ) → testsIn fs ≤ a → (w a .ended ≡ 1) × ((i : ℕ) → member i (w a .sure) ≡ matches fs (field f p) i)
+    pub demand-2 : (a : ℕ) → testsIn fs ≤ a → (isDone (w a) ≡ true) × ((i : ℕ) → member i (found (w a) .sure) ≡ matches fs (field f p) i)
     demand-2 a enough = (all-done l t s built f p legal a enough, all-matches l t s built f p legal a enough)
 
     -- Change request P1: then the scanner, which has no table, names the same set.
-    pub scanner-agrees : (a : ℕ) → testsIn fs ≤ a → scanned l f p ≡ Matched (w a .sure)
+    pub scanner-agrees : (a : ℕ) → testsIn fs ≤ a → scanned l f p ≡ Matched (found (w a) .sure)
     scanner-agrees = all-scanned l t s built f p legal
 
     -- Demand 3: whatever the allowance, end, sets and count are those of the state that the residue rules reach by that many questions at most.
@@ -62,35 +63,35 @@ module _ (l t s : List ℕ) where
     demand-3-exact = exact l t s built f p legal
 
     -- A filter of the list is in neither set exactly where it is open in that state.
-    pub demand-3-open : (a i : ℕ) → i < length fs → (not (member i (w a .sure)) && not (member i (w a .out))) ≡ isOpen fs (run fs (field f p) a (start fs)) i
+    pub demand-3-open : (a i : ℕ) → i < length fs → (not (member i (found (w a) .sure)) && not (member i (found (w a) .out))) ≡ isOpen fs (run fs (field f p) a (start fs)) i
     demand-3-open = open-so l t s built f p legal
 
     -- A filter that is sure is in the match set, and one that is out is not.
-    pub demand-3-sure : (a i : ℕ) → member i (w a .sure) ≡ true → matches fs (field f p) i ≡ true
+    pub demand-3-sure : (a i : ℕ) → member i (found (w a) .sure) ≡ true → matches fs (field f p) i ≡ true
     demand-3-sure = sure-so l t s built f p legal
 
-    pub demand-3-out : (a i : ℕ) → member i (w a .out) ≡ true → matches fs (field f p) i ≡ false
+    pub demand-3-out : (a i : ℕ) → member i (found (w a) .out) ≡ true → matches fs (field f p) i ≡ false
     demand-3-out = out-so l t s built f p legal
 
     -- A greater allowance takes neither back.
-    pub demand-3-stays : (a a' i : ℕ) → a ≤ a' → (member i (w a .sure) ≡ true → member i (w a' .sure) ≡ true) × (member i (w a .out) ≡ true → member i (w a' .out) ≡ true)
+    pub demand-3-stays : (a a' i : ℕ) → a ≤ a' → (member i (found (w a) .sure) ≡ true → member i (found (w a') .sure) ≡ true) × (member i (found (w a) .out) ≡ true → member i (found (w a') .out) ≡ true)
     demand-3-stays a a' i more = (sure-kept l t s built f p legal a a' i more, out-kept l t s built f p legal a a' i more)
 
     -- With an allowance of the list's tests no filter is left open.
-    pub demand-3-settled : (a : ℕ) → testsIn fs ≤ a → (i : ℕ) → i < length fs → (member i (w a .sure) ≡ true) ⊎ (member i (w a .out) ≡ true)
+    pub demand-3-settled : (a : ℕ) → testsIn fs ≤ a → (i : ℕ) → i < length fs → (member i (found (w a) .sure) ≡ true) ⊎ (member i (found (w a) .out) ≡ true)
     demand-3-settled = none-left l t s built f p legal
 
     -- No more questions are asked than allowed, nor than the list has tests.
-    pub demand-3-asked : (a : ℕ) → (w a .asked ≤ a) × (w a .asked ≤ testsIn fs)
+    pub demand-3-asked : (a : ℕ) → (found (w a) .asked ≤ a) × (found (w a) .asked ≤ testsIn fs)
     demand-3-asked = asked-few l t s built f p legal
 
   -- An accepted list.
   module _ (n k : ℕ) (accepted : listed l ≡ Accepted n k) where
     -- Demand 2, last sentence: with scratch enough for the slots it is refused for want of room exactly where it has more states than the table has slots; else it is built.
-    pub demand-2-room : scratchWords t ≤ length s → (b .answer .refusal ≡ 11 → slotsOf t < length (statesOf fs)) × (slotsOf t < length (statesOf fs) → b .answer .refusal ≡ 11)
+    pub demand-2-room : scratchWords t ≤ length s → (refusalOf (b .answer) ≡ 11 → slotsOf t < length (statesOf fs)) × (slotsOf t < length (statesOf fs) → refusalOf (b .answer) ≡ 11)
     demand-2-room = build-full l t s n k accepted
 
-    pub demand-2-built : scratchWords t ≤ length s → length (statesOf fs) ≤ slotsOf t → b .answer .refusal ≡ 0
+    pub demand-2-built : scratchWords t ≤ length s → length (statesOf fs) ≤ slotsOf t → refusalOf (b .answer) ≡ 0
     demand-2-built = build-fits l t s n k accepted
 
     -- These states are distinct, and a state is one of them exactly where outcomes can reach it from the start.

@@ -9,7 +9,6 @@ use Rattle.builder.specs.Outcome as O
 use Rattle.builder.specs.Tight.{answered-one}
 use Rattle.matcher.specs.declared.Answer.{Answer}
 use Rattle.matcher.specs.Walk as W
-use Rattle.matcher.specs.laws.Walks as M
 use Rattle.demands.specs.Whole.{Whole, Rooms}
 
 -- An answer that equals a definition: `check`, `rank_sets`, `scan`, `read_field`, `residue_of` and all whose promise is one equation.
@@ -27,16 +26,16 @@ pub header-tight : (f : List ℕ) (p : ℕ) (old vs ws : List ℕ) (x y : ℕ) �
 header-tight f p old vs ws x y u v = (u .set ∙ sym (v .set), u .words ∙ sym (v .words))
 
 -- Classifying writes nothing, and its answer is determined.
-pub classify-tight : (f : List ℕ) (p : ℕ) (t : List ℕ) (m a : ℕ) (x y : Answer) → W.shown x ≡ W.walk f p t m a → W.shown y ≡ W.walk f p t m a → x ≡ y
-classify-tight f p t m a x y u v = M.shown-injective x y (u ∙ sym v)
+pub classify-tight : (f : List ℕ) (p : ℕ) (t : List ℕ) (m a : ℕ) (x y : Answer) → x ≡ W.walk f p t m a → y ≡ W.walk f p t m a → x ≡ y
+classify-tight f p t m a x y u v = u ∙ sym v
 
 -- Both as one.
 pub build-and-classify-tight :
     (l t s f : List ℕ) (p a : ℕ) (x y : Answer) (tx ty sx sy : List ℕ) → Whole l t s f p a x → Rooms (O.outcome l t s) tx sx → Whole l t s f p a y →
     Rooms (O.outcome l t s) ty sy → (x ≡ y) × (tx ≡ ty) × (sx ≡ sy)
 build-and-classify-tight l t s f p a x y tx ty sx sy wx rx wy ry =
-    (M.shown-injective x y (same (O.outcome l t s .answer .refusal) refl), rx .table ∙ sym (ry .table), rx .scratch ∙ sym (ry .scratch))
+    (same (O.refusalOf (O.outcome l t s .answer)) refl, rx .table ∙ sym (ry .table), rx .scratch ∙ sym (ry .scratch))
   where
-    same : (n : ℕ) → O.outcome l t s .answer .refusal ≡ n → W.shown x ≡ W.shown y
+    same : (n : ℕ) → O.refusalOf (O.outcome l t s .answer) ≡ n → x ≡ y
     same zero e = wx .walks e ∙ sym (wy .walks e)
-    same (suc n) e = let some : 0 < O.outcome l t s .answer .refusal = omega arith in wx .unbuilt some ∙ sym (wy .unbuilt some)
+    same (suc n) e = let some : 0 < O.refusalOf (O.outcome l t s .answer) = omega arith in wx .unbuilt some ∙ sym (wy .unbuilt some)

@@ -1,3 +1,2 @@
-pub mod Shown
+pub mod Numbers
 pub mod Tight
-pub mod inner

@@ -2,14 +2,12 @@
 ghost use mathlib.Core.Path.{_≡_};
 ghost use Rattle.slots.specs.Words.{slotWords};
 ghost use Rattle.builder.specs.Outcome.{outcome};
-ghost use Rattle.builder.specs.Outcome.{shown as B·shown};
 ghost use Rattle.matcher.specs.Walk.{walk};
-ghost use Rattle.matcher.specs.Walk.{shown as W·shown};
-ghost use Rattle.scanner.specs.Scan.{numbersOf, scanned};
-ghost use Rattle.filterbox.specs.Shown.{Compiled, classified, scanShown};
-ghost use Rattle.filterbox.specs.inner.Numbers.{Numbers};
+ghost use Rattle.scanner.specs.Scan.{scanned};
+ghost use Rattle.filterbox.specs.Numbers.{builtWith, Compiled, endedWith, classified, matched};
 use builder::Built;
 use matcher::Answer;
+use matcher::Found;
 use scanner::Scanned;
 
 // The words of a slot, as a C caller gets them.
@@ -23,7 +21,7 @@ pub struct FilterboxBuilt {
 }
 
 fn built_of(built: Built) -> FilterboxBuilt
-    ensures { λ r. ⌜ Numbers r (B·shown built) ⌝ }
+    ensures { λ r. ⌜ r ≡ builtWith built ⌝ }
 {
     match built {
         Built::States(states) => FilterboxBuilt {
@@ -67,31 +65,32 @@ pub struct FilterboxAnswer {
     pub asked: u32,
 }
 
+fn ended_with(ended: u32, refusal: u32, found: Found) -> FilterboxAnswer
+    ensures { λ r. ⌜ r ≡ endedWith ended refusal found ⌝ }
+{
+    FilterboxAnswer {
+        ended,
+        refusal,
+        sure: found.sure,
+        out: found.out,
+        asked: found.asked,
+    }
+}
+
 fn answer_of(answer: Answer) -> FilterboxAnswer
-    ensures { λ r. ⌜ classified r ≡ W·shown answer ⌝ }
+    ensures { λ r. ⌜ r ≡ classified answer ⌝ }
 {
     match answer {
-        Answer::Done(sure, out, asked) => FilterboxAnswer {
-            ended: 1,
-            refusal: 0,
-            sure,
-            out,
-            asked,
-        },
-        Answer::Stopped(sure, out, asked) => FilterboxAnswer {
-            ended: 2,
-            refusal: 0,
-            sure,
-            out,
-            asked,
-        },
-        Answer::Refused(number) => FilterboxAnswer {
-            ended: 0,
-            refusal: number,
-            sure: 0,
-            out: 0,
-            asked: 0,
-        },
+        Answer::Done(found) => ended_with(1, 0, found),
+        Answer::Stopped(found) => ended_with(2, 0, found),
+        Answer::Refused(number) => {
+            let none = Found {
+                sure: 0,
+                out: 0,
+                asked: 0,
+            };
+            ended_with(0, number, none)
+        }
     }
 }
 
@@ -104,7 +103,7 @@ pub extern "C" fn filterbox_classify(
     states: u32,
     allowance: u32,
 ) -> FilterboxAnswer
-    ensures { λ r. ⌜ classified r ≡ walk (now (frame .entry)) port (now (table .entry)) states allowance ⌝ }
+    ensures { λ r. ⌜ r ≡ classified (walk (now (frame .entry)) port (now (table .entry)) states allowance) ⌝ }
 {
     answer_of(matcher::classify(frame, port, table, states, allowance))
 }
@@ -118,7 +117,7 @@ pub struct FilterboxScanned {
 }
 
 fn scanned_of(answer: Scanned) -> FilterboxScanned
-    ensures { λ r. ⌜ scanShown r ≡ numbersOf answer ⌝ }
+    ensures { λ r. ⌜ r ≡ matched answer ⌝ }
 {
     match answer {
         Scanned::Matched(set) => FilterboxScanned {
@@ -137,7 +136,7 @@ fn scanned_of(answer: Scanned) -> FilterboxScanned
 // Asks each filter of a list in turn of a frame, which came in at a box port. No table is needed, and nothing is written.
 #[no_mangle]
 pub extern "C" fn filterbox_scan(list: &[u32], frame: &[u8], port: u8) -> FilterboxScanned
-    ensures { λ r. ⌜ scanShown r ≡ numbersOf (scanned (now (list .entry)) (now (frame .entry)) port) ⌝ }
+    ensures { λ r. ⌜ r ≡ matched (scanned (now (list .entry)) (now (frame .entry)) port) ⌝ }
 {
     scanned_of(scanner::scan(list, frame, port))
 }

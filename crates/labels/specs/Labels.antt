@@ -8,14 +8,16 @@ use Rattle.fields.specs.Bytes.{Bytes}
 use Rattle.fields.specs.Ethernet.{maxFrame}
 use Rattle.lists.specs.Filters.{Filter}
 use Rattle.states.specs.States.{State, Question, nothing, ask, questionOf, sureSet, outSet}
-use Rattle.matcher.specs.Walk.{Shown, done, stopped}
+use Rattle.matcher.specs.declared.Found.{Found}
+use Rattle.matcher.specs.declared.Answer.{Answer}
+use Rattle.matcher.specs.declared.Answer.the-variants.{Done, Stopped}
 
-unfoldable pub endedBy : Question → ℕ → ℕ → ℕ → Shown
-endedBy nothing s o k = done s o k
-endedBy (ask q) s o k = stopped s o k
+unfoldable pub endedBy : Question → Found → Answer
+endedBy nothing x = Done x
+endedBy (ask q) x = Stopped x
 
-unfoldable pub shownAt : List Filter → State → ℕ → Shown
-shownAt fs s k = endedBy (questionOf s) (sureSet fs s) (outSet fs s) k
+unfoldable pub shownAt : List Filter → State → ℕ → Answer
+shownAt fs s k = endedBy (questionOf s) (record { sure = sureSet fs s; out = outSet fs s; asked = k })
 
 pub record Legal (f : List ℕ) (p : ℕ) : Type 0 where
   pub short : length f ≤ maxFrame

@@ -2,6 +2,7 @@
 --   maxFilters, maxTests, maxRank   32 filters, 8 tests a filter, groups and levels to 255
 --   headWords, testWords            three words before the tests, four words a test
 --   kindEqual .. kindAtLeast        the kinds, 1 to 4
+--   kindAt .. valueAt               the places of a test's words
 --   Item, Filter     a test with its field; a filter with its group, level and tests
 --   testOf k m v     the test that the words kind, mask, value mean
 --   filtersOf ws     the filters of the words ws, which refusals 1 to 9 do not meet
@@ -63,25 +64,25 @@ countWord ws = getD ws 2 0
 abbrev pub filterWords : List ℕ → ℕ
 filterWords ws = headWords + testWords * countWord ws
 
--- The words of a test.
-abbrev pub kindWord : List ℕ → ℕ
-kindWord ws = getD ws 0 0
+-- The places of a test's words.
+abbrev pub kindAt : ℕ
+kindAt = 0
 
-abbrev pub fieldWord : List ℕ → ℕ
-fieldWord ws = getD ws 1 0
+abbrev pub fieldAt : ℕ
+fieldAt = 1
 
-abbrev pub maskWord : List ℕ → ℕ
-maskWord ws = getD ws 2 0
+abbrev pub maskAt : ℕ
+maskAt = 2
 
-abbrev pub valueWord : List ℕ → ℕ
-valueWord ws = getD ws 3 0
+abbrev pub valueAt : ℕ
+valueAt = 3
 
 -- Refusal 5 leaves no other kind.
 unfoldable pub testOf : ℕ → ℕ → ℕ → Test
 testOf k m v = cond (eqb k kindEqual) (Equal m v) (cond (eqb k kindDiffers) (Differs m v) (cond (eqb k kindAtMost) (AtMost v) (AtLeast v)))
 
 unfoldable pub itemOf : List ℕ → Item
-itemOf ws = record { field = fieldWord ws; test = testOf (kindWord ws) (maskWord ws) (valueWord ws) }
+itemOf ws = record { field = getD ws fieldAt 0; test = testOf (getD ws kindAt 0) (getD ws maskAt 0) (getD ws valueAt 0) }
 
 unfoldable pub itemsOf : ℕ → List ℕ → List Item
 itemsOf zero ws = []

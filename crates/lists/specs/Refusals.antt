@@ -8,9 +8,9 @@ use mathlib.Core.Bool.{Bool, cond, not, _&&_, _||_}
 use mathlib.Core.List.{List, [], _∷_}
 use lib.Dec.{leb, ltb, eqb}
 use lib.Bits.{bitAnd}
-use lib.ListN.{length, drop}
+use lib.ListN.{length, getD, drop}
 use Rattle.fields.specs.Widths.{fieldCount, full}
-use Rattle.lists.specs.Filters.{maxFilters, maxTests, maxRank, headWords, testWords, kindDiffers, kindAtLeast, groupWord, levelWord, countWord, kindWord, fieldWord, maskWord, valueWord, filterWords}
+use Rattle.lists.specs.Filters.{maxFilters, maxTests, maxRank, headWords, testWords, kindDiffers, kindAtLeast, groupWord, levelWord, countWord, kindAt, fieldAt, maskAt, valueAt, filterWords}
 use Rattle.lists.specs.declared.Listed.{Listed}
 use Rattle.lists.specs.declared.Listed.the-variants.{Accepted, Refused}
 
@@ -27,7 +27,7 @@ testFault k f m v =
     (cond (masked k && not (eqb (bitAnd v m) v)) 9 0))))
 
 unfoldable pub wordsFault : List ℕ → ℕ
-wordsFault ws = testFault (kindWord ws) (fieldWord ws) (maskWord ws) (valueWord ws)
+wordsFault ws = testFault (getD ws kindAt 0) (getD ws fieldAt 0) (getD ws maskAt 0) (getD ws valueAt 0)
 
 unfoldable pub testsFault : ℕ → List ℕ → ℕ
 testsFault zero ws = 0

@@ -29,7 +29,9 @@ const LEVEL_AT: usize = 1;
 
 const COUNT_AT: usize = 2;
 
-// And in a test; the kind is the first.
+// And in a test.
+pub const KIND_AT: usize = 0;
+
 pub const FIELD_AT: usize = 1;
 
 pub const MASK_AT: usize = 2;

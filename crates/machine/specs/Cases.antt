@@ -7,7 +7,6 @@ use lib.ListN.{length}
 use Rattle.residue.specs.Residues as RR
 use Rattle.residue.specs.Facts as FF
 use Rattle.residue.specs.Tests as TT
-use Rattle.residue.specs.Relations as RL
 use Rattle.fields.specs.Widths as WW
 use Rattle.sets.specs.Sets as SS
 use Rattle.lists.specs.Filters as LF
@@ -53,9 +52,9 @@ unplaced =
     3 ∷ 0 ∷ 2 ∷ 2 ∷ 13 ∷ 19 ∷ 19 ∷ 2 ∷ 13 ∷ 35 ∷ 35 ∷ []
 
 pub echo-records : BX.recordsIn (LF.filtersOf echo) ≡ echoTable
-unfolding echo echoIn echoTable BX.statesOf BX.recordsIn MM.visit MM.visitWays MM.meets MM.placeOf MM.nextsOf MM.recordOf MM.flat MM.recordsOf TB.recordWith TB.asWords LF.filtersOf LF.filtersFrom LF.itemsOf LF.filterOf LF.itemOf LF.testOf LF.testsIn LW.itemWords LW.kindOf LW.maskOf LW.valueOf LR.above LR.outranks ST.start ST.questionOf ST.step ST.stepBy ST.stepAt ST.closed ST.closedFrom ST.beaten ST.cut ST.cutStanding ST.keep ST.join ST.isHeld ST.isOut ST.sure ST.sureSet ST.outSet ST.allLeft SM.sameList SM.sameItem SM.sameStanding SM.sameState SA.asks SL.questionWords SS.setOf SS.tally SS.some RR.residueBy RR.fromEqual RR.fromMasked RR.fromDiffers RR.fromAtMost RR.fromAtLeast RR.covers RR.reducedEqual RR.reducedDiffers RR.outside RR.settled FF.factOf FF.failsFact TT.holds RL.sameTest RL.equalOf RL.differsOf RL.atMostOf RL.atLeastOf WW.full WW.width
+unfolding echo echoIn echoTable BX.statesOf BX.recordsIn MM.visit MM.visitWays MM.meets MM.placeOf MM.nextsOf MM.recordOf MM.flat MM.recordsOf TB.recordWith TB.asWords LF.filtersOf LF.filtersFrom LF.itemsOf LF.filterOf LF.itemOf LF.testOf LF.testsIn LW.itemWords LW.kindOf LW.maskOf LW.valueOf LR.above LR.outranks ST.start ST.questionOf ST.step ST.stepBy ST.stepAt ST.closed ST.closedFrom ST.beaten ST.cut ST.cutStanding ST.keep ST.join ST.isHeld ST.isOut ST.sure ST.sureSet ST.outSet ST.allLeft SM.sameList SM.sameItem SM.sameStanding SM.sameState SA.asks SL.questionWords SS.setOf SS.tally SS.some RR.residueBy RR.fromEqual RR.fromMasked RR.fromDiffers RR.fromAtMost RR.fromAtLeast RR.covers RR.reducedEqual RR.reducedDiffers RR.outside RR.settled FF.factOf FF.failsFact TT.holds WW.full WW.width
 echo-records = refl
 
 pub unplaced-states : length (BX.statesOf (LF.filtersOf unplaced)) ≡ 15
-unfolding unplaced BX.statesOf BX.recordsIn MM.visit MM.visitWays MM.meets MM.placeOf MM.nextsOf MM.recordOf MM.flat MM.recordsOf TB.recordWith TB.asWords LF.filtersOf LF.filtersFrom LF.itemsOf LF.filterOf LF.itemOf LF.testOf LF.testsIn LW.itemWords LW.kindOf LW.maskOf LW.valueOf LR.above LR.outranks ST.start ST.questionOf ST.step ST.stepBy ST.stepAt ST.closed ST.closedFrom ST.beaten ST.cut ST.cutStanding ST.keep ST.join ST.isHeld ST.isOut ST.sure ST.sureSet ST.outSet ST.allLeft SM.sameList SM.sameItem SM.sameStanding SM.sameState SA.asks SL.questionWords SS.setOf SS.tally SS.some RR.residueBy RR.fromEqual RR.fromMasked RR.fromDiffers RR.fromAtMost RR.fromAtLeast RR.covers RR.reducedEqual RR.reducedDiffers RR.outside RR.settled FF.factOf FF.failsFact TT.holds RL.sameTest RL.equalOf RL.differsOf RL.atMostOf RL.atLeastOf WW.full WW.width
+unfolding unplaced BX.statesOf BX.recordsIn MM.visit MM.visitWays MM.meets MM.placeOf MM.nextsOf MM.recordOf MM.flat MM.recordsOf TB.recordWith TB.asWords LF.filtersOf LF.filtersFrom LF.itemsOf LF.filterOf LF.itemOf LF.testOf LF.testsIn LW.itemWords LW.kindOf LW.maskOf LW.valueOf LR.above LR.outranks ST.start ST.questionOf ST.step ST.stepBy ST.stepAt ST.closed ST.closedFrom ST.beaten ST.cut ST.cutStanding ST.keep ST.join ST.isHeld ST.isOut ST.sure ST.sureSet ST.outSet ST.allLeft SM.sameList SM.sameItem SM.sameStanding SM.sameState SA.asks SL.questionWords SS.setOf SS.tally SS.some RR.residueBy RR.fromEqual RR.fromMasked RR.fromDiffers RR.fromAtMost RR.fromAtLeast RR.covers RR.reducedEqual RR.reducedDiffers RR.outside RR.settled FF.factOf FF.failsFact TT.holds WW.full WW.width
 unplaced-states = refl

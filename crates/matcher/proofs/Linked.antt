@@ -11,8 +11,8 @@ use Rattle.residue.specs.Tests.{holds}
 use Rattle.residue.specs.declared.Reading.{Reading}
 use Rattle.residue.specs.declared.Reading.the-variants.{Value}
 use Rattle.fields.specs.Widths.{fieldCount}
-use Rattle.lists.specs.Filters.{testOf}
-use Rattle.tables.specs.Tables.{wordOf, kindAt, fieldAt}
+use Rattle.lists.specs.Filters.{testOf, kindAt, fieldAt}
+use Rattle.tables.specs.Tables.{wordOf}
 use Rattle.matcher.specs.Walk.{damaged, nextOf, onward, walkFrom}
 use Rattle.matcher.specs.inner.Chains.{linksAt, Chained}
 use Rattle.matcher.proofs.Steps.{Walking, window, read, read-word, at-question, way-fails}

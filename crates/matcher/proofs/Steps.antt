@@ -17,10 +17,12 @@ use Rattle.residue.specs.Tests.{holds}
 use Rattle.residue.specs.declared.Reading.{Reading}
 use Rattle.residue.specs.declared.Reading.the-variants.{Absent, Value}
 use Rattle.fields.specs.Widths.{fieldCount}
-use Rattle.lists.specs.Filters.{kindAtLeast, testOf}
-use Rattle.tables.specs.Tables.{recordWords, wordOf, kindAt, fieldAt}
-use Rattle.matcher.specs.Walk.{Shown, refused, damaged, nextBy, nextOf, arrive, onward, walkFrom}
-use Rattle.matcher.specs.inner.Records.{wordIn, lastField, endsAt, endAt}
+use Rattle.lists.specs.Filters.{kindAtLeast, testOf, kindAt, fieldAt}
+use Rattle.tables.specs.Tables.{recordWords, wordOf, setAt, sureSetAt, outSetAt}
+use Rattle.matcher.specs.declared.Answer.{Answer}
+use Rattle.matcher.specs.declared.Answer.the-variants.{Refused}
+use Rattle.matcher.specs.Walk.{foundAt, damaged, nextBy, nextOf, arrive, onward, walkFrom}
+use Rattle.matcher.specs.inner.Records.{wordIn, lastField, endsAt, foundIn, endAt}
 
 abbrev pub window : List ℕ → ℕ → List ℕ
 window t n = take (recordWords * n + recordWords - recordWords * n) (drop (recordWords * n) t)
@@ -57,7 +59,7 @@ clear false false false true e = absurd (false≢true (sym e))
 clear false false false false e = (refl, refl, refl, refl)
 
 -- Where a record ends the walk, what would come after it does not matter.
-settles : (d f : Bool) → (d || f) ≡ true → (end on on' : Shown) → arrive d f end on ≡ arrive d f end on'
+settles : (d f : Bool) → (d || f) ≡ true → (end on on' : Answer) → arrive d f end on ≡ arrive d f end on'
 unfolding arrive
 settles true f e end on on' = refl
 settles false true e end on on' = refl
@@ -66,7 +68,7 @@ settles false false e end on on' = absurd (false≢true e)
 module _ (t : List ℕ) (m : ℕ) (r : ℕ → Reading) (k n : ℕ) where
   -- No question left: what the record shows by itself.
   at-end : endAt (window t n) k ≡ walkFrom t m r 0 k n
-  unfolding endAt walkFrom damaged
+  unfolding endAt foundIn walkFrom foundAt sureSetAt outSetAt setAt damaged
   at-end =
       rw (
         read-word t n 0 (omega arith),
@@ -148,7 +150,7 @@ module _ {t : List ℕ} {m : ℕ} {r : ℕ → Reading} {a l n : ℕ} where
       }
 
   -- The way leads to no record, or to the next.
-  pub lost : Asking t m r a l n → (next : ℕ) → nextOf t r n ≡ next → m ≤ next → refused 13 ≡ walkFrom t m r a 0 0
+  pub lost : Asking t m r a l n → (next : ℕ) → nextOf t r n ≡ next → m ≤ next → Refused 13 ≡ walkFrom t m r a 0 0
   unfolding onward
   lost q next e h = rw (e, le-ltb next m h) at (q .rest)
 

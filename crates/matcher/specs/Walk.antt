@@ -1,6 +1,6 @@
 -- Document 01, "Refusal numbers", the paragraph on classifying: what a walk through any table's words answers.
---   Shown               how the walk ended (0 refused, 1 done, 2 stopped), the refusal's number, sure, out, questions asked
---   shown a             document 01's numbers for each case of the enum Answer
+--   foundAt t n k       what record n shows with k questions asked: its sets and the count
+--   found a, isDone a   what an answer shows, zeros where it is refused; whether its walk came to a final record
 --   damaged t n         record n has a kind above 4, or a kind that is not 0 and a field above the last
 --   nextOf t r n        the next number that record n has for a frame whose field f reads r f
 --   walkFrom t m r a k n  the walk from record n on, in a table of m states, with a questions allowed and k asked so far
@@ -16,32 +16,24 @@ use Rattle.residue.specs.declared.Reading.the-variants.{Absent, Value}
 use Rattle.fields.specs.Widths.{fieldCount}
 use Rattle.fields.specs.Ethernet.{maxFrame}
 use Rattle.fields.specs.Fields.{field}
-use Rattle.lists.specs.Filters.{kindAtLeast, testOf}
-use Rattle.tables.specs.Tables.{slotsOf, wordOf, kindAt, fieldAt, maskAt, valueAt, holdsAt, failsAt, absentAt, sureAt, outAt}
+use Rattle.lists.specs.Filters.{kindAtLeast, testOf, kindAt, fieldAt, maskAt, valueAt}
+use Rattle.tables.specs.Tables.{slotsOf, wordOf, holdsAt, failsAt, absentAt, sureSetAt, outSetAt}
+use Rattle.matcher.specs.declared.Found.{Found}
 use Rattle.matcher.specs.declared.Answer.{Answer}
 use Rattle.matcher.specs.declared.Answer.the-variants.{Done, Stopped, Refused}
 
-pub record Shown : Type 0 where
-  pub ended : ℕ
-  pub refusal : ℕ
-  pub sure : ℕ
-  pub out : ℕ
-  pub asked : ℕ
+unfoldable pub foundAt : List ℕ → ℕ → ℕ → Found
+foundAt t n k = record { sure = sureSetAt t n; out = outSetAt t n; asked = k }
 
-abbrev pub done : ℕ → ℕ → ℕ → Shown
-done s o k = record { ended = 1; refusal = 0; sure = s; out = o; asked = k }
+abbrev pub found : Answer → Found
+found (Done x) = x
+found (Stopped x) = x
+found (Refused n) = record { sure = 0; out = 0; asked = 0 }
 
-abbrev pub stopped : ℕ → ℕ → ℕ → Shown
-stopped s o k = record { ended = 2; refusal = 0; sure = s; out = o; asked = k }
-
--- A refusal has zeros for the sets and the count.
-abbrev pub refused : ℕ → Shown
-refused n = record { ended = 0; refusal = n; sure = 0; out = 0; asked = 0 }
-
-abbrev pub shown : Answer → Shown
-shown (Done s o k) = done s o k
-shown (Stopped s o k) = stopped s o k
-shown (Refused n) = refused n
+abbrev pub isDone : Answer → Bool
+isDone (Done x) = true
+isDone (Stopped x) = false
+isDone (Refused n) = false
 
 unfoldable pub damaged : List ℕ → ℕ → Bool
 damaged t n = ltb kindAtLeast (wordOf t n kindAt) || (not (eqb (wordOf t n kindAt) 0) && leb fieldCount (wordOf t n fieldAt))
@@ -58,27 +50,25 @@ unfoldable pub nextOf : List ℕ → (ℕ → Reading) → ℕ → ℕ
 nextOf t r n = nextBy t n (r (wordOf t n fieldAt))
 
 -- The first of these that fits: a damaged record, a final one, a question that may go on.
-unfoldable pub arrive : Bool → Bool → Shown → Shown → Shown
-arrive true final end on = refused 13
+unfoldable pub arrive : Bool → Bool → Answer → Answer → Answer
+arrive true final end on = Refused 13
 arrive false true end on = end
 arrive false false end on = on
 
 -- A next number that is not below the number of states is damage.
-unfoldable pub onward : Bool → Shown → Shown
+unfoldable pub onward : Bool → Answer → Answer
 onward true on = on
-onward false on = refused 13
+onward false on = Refused 13
 
-unfoldable pub walkFrom : List ℕ → ℕ → (ℕ → Reading) → ℕ → ℕ → ℕ → Shown
+unfoldable pub walkFrom : List ℕ → ℕ → (ℕ → Reading) → ℕ → ℕ → ℕ → Answer
 walkFrom t m r zero k n =
-    arrive (damaged t n) (eqb (wordOf t n kindAt) 0)
-    (done (wordOf t n sureAt) (wordOf t n outAt) k)
-    (stopped (wordOf t n sureAt) (wordOf t n outAt) k)
+    arrive (damaged t n) (eqb (wordOf t n kindAt) 0) (Done (foundAt t n k)) (Stopped (foundAt t n k))
 walkFrom t m r (suc a) k n =
     let rest = walkFrom t m r a (k + 1) (nextOf t r n) in
     let on = onward (ltb (nextOf t r n) m) rest in
-    arrive (damaged t n) (eqb (wordOf t n kindAt) 0) (done (wordOf t n sureAt) (wordOf t n outAt) k) on
+    arrive (damaged t n) (eqb (wordOf t n kindAt) 0) (Done (foundAt t n k)) on
 
-unfoldable pub walk : List ℕ → ℕ → List ℕ → ℕ → ℕ → Shown
+unfoldable pub walk : List ℕ → ℕ → List ℕ → ℕ → ℕ → Answer
 walk f p t m a =
-    cond (ltb maxFrame (length f)) (refused 12)
-    (cond (eqb m 0 || ltb (slotsOf t) m) (refused 13) (walkFrom t m (field f p) a 0 0))
+    cond (ltb maxFrame (length f)) (Refused 12)
+    (cond (eqb m 0 || ltb (slotsOf t) m) (Refused 13) (walkFrom t m (field f p) a 0 0))

@@ -6,7 +6,7 @@ ghost use Rattle.residue.specs.Tests.{holds};
 ghost use Rattle.fields.specs.Header.{readingAt};
 ghost use Rattle.lists.specs.Filters.{testOf};
 ghost use Rattle.tables.specs.Tables.{recordWords, maxSlots};
-ghost use Rattle.matcher.specs.Walk.{shown, walkFrom, walk};
+ghost use Rattle.matcher.specs.Walk.{walkFrom, walk};
 ghost use Rattle.matcher.specs.inner.Records.{endsAt, endAt};
 ghost use Rattle.matcher.specs.inner.Chains.{linksAt, Chained};
 ghost use Rattle.fields.specs.Widths.{fieldCount};
@@ -19,6 +19,7 @@ use lists::AT_MOST;
 use lists::DIFFERS;
 use lists::EQUAL;
 use residue::Reading;
+use sets::Set;
 use tables::ABSENT_AT;
 use tables::FAILS_AT;
 use tables::FIELD_AT;
@@ -33,10 +34,17 @@ use tables::VALUE_AT;
 
 const MAX_STATES: u32 = MAX_SLOTS as u32;
 
-// The end of a walk: at a final record, or with the allowance used, each with the sure set, the out set and the questions asked; or refused, with its number.
+// What the record shows that a walk ended at: its sure set and its out set; and the questions asked.
+pub struct Found {
+    pub sure: Set,
+    pub out: Set,
+    pub asked: u32,
+}
+
+// The end of a walk: at a final record, or with the allowance used, each with what was found; or refused, with its number.
 pub enum Answer {
-    Done(u32, u32, u32),
-    Stopped(u32, u32, u32),
+    Done(Found),
+    Stopped(Found),
     Refused(u32),
 }
 
@@ -79,17 +87,18 @@ fn ends(words: &[u32], left: u32) -> bool
 // The answer at such a record. Damage comes before the allowance; the field of a final record is not looked at.
 fn end(words: &[u32], asked: u32) -> Answer
     requires { ⌜ recordWords ≤ length (now words) ⌝ }
-    ensures { λ r. ⌜ shown r ≡ endAt (now (words .entry)) asked ⌝ }
+    ensures { λ r. ⌜ r ≡ endAt (now (words .entry)) asked ⌝ }
 {
     let sure = words[SURE_AT];
     let out = words[OUT_AT];
+    let found = Found { sure, out, asked };
     if words[KIND_AT] == 0 {
-        return Answer::Done(sure, out, asked);
+        return Answer::Done(found);
     }
     if (AT_LEAST < words[KIND_AT]) | (LAST_FIELD < words[FIELD_AT]) {
         return Answer::Refused(13);
     }
-    Answer::Stopped(sure, out, asked)
+    Answer::Stopped(found)
 }
 
 // Whether a record asks the field by an equality that misses x and leads to record next.
@@ -154,7 +163,7 @@ fn follow(table: &[u32], s: u32, next: u32, field: u32, x: u32, states: u32, lef
 // one `next` for all ways would make each record wait for the one before it.
 fn walk_from(present: u32, values: &Values, table: &[u32], states: u32, allowance: u32) -> Answer
     requires { ⌜ 0 < states ⌝ ∗ ⌜ states ≤ maxSlots ⌝ ∗ ⌜ recordWords * states ≤ length (now table) ⌝ }
-    ensures { λ r. ⌜ shown r ≡ walkFrom (now (table .entry)) states (readingAt present (now (values .entry))) allowance 0 0 ⌝ }
+    ensures { λ r. ⌜ r ≡ walkFrom (now (table .entry)) states (readingAt present (now (values .entry))) allowance 0 0 ⌝ }
 {
     let mut at = Place {
         s: 0,
@@ -191,7 +200,7 @@ fn walk_from(present: u32, values: &Values, table: &[u32], states: u32, allowanc
 
 // The answer for any frame, table and number of states. The number is held to the table's words by a product, which needs no division.
 pub fn classify(frame: &[u8], port: u8, table: &[u32], states: u32, allowance: u32) -> Answer
-    ensures { λ r. ⌜ shown r ≡ walk (now (frame .entry)) port (now (table .entry)) states allowance ⌝ }
+    ensures { λ r. ⌜ r ≡ walk (now (frame .entry)) port (now (table .entry)) states allowance ⌝ }
 {
     if MAX_FRAME < frame.len() {
         return Answer::Refused(12);

@@ -5,16 +5,17 @@ ghost use Prim.Native.Nat.{_<_, _≤_};
 ghost use lib.ListN.{length};
 use libc::STDOUT_FILENO;
 use matcher::Answer;
+use matcher::Found;
 
 fn put_word(n: u32) {
     io::write_all(STDOUT_FILENO, b" ");
     io::print_decimal(STDOUT_FILENO, n as u64);
 }
 
-fn put_sets(sure: u32, out: u32, asked: u32) {
-    put_word(sure);
-    put_word(out);
-    put_word(asked);
+fn put_found(found: Found) {
+    put_word(found.sure);
+    put_word(found.out);
+    put_word(found.asked);
     io::write_all(STDOUT_FILENO, b"\n");
 }
 
@@ -24,20 +25,20 @@ fn put_refusal(n: u32) {
     io::write_all(STDOUT_FILENO, b"\n");
 }
 
-fn put_done(sure: u32, out: u32, asked: u32) {
+fn put_done(found: Found) {
     io::write_all(STDOUT_FILENO, b"done");
-    put_sets(sure, out, asked);
+    put_found(found);
 }
 
-fn put_stopped(sure: u32, out: u32, asked: u32) {
+fn put_stopped(found: Found) {
     io::write_all(STDOUT_FILENO, b"stopped");
-    put_sets(sure, out, asked);
+    put_found(found);
 }
 
 fn put_answer(a: Answer) {
     match a {
-        Answer::Done(s, o, k) => put_done(s, o, k),
-        Answer::Stopped(s, o, k) => put_stopped(s, o, k),
+        Answer::Done(found) => put_done(found),
+        Answer::Stopped(found) => put_stopped(found),
         Answer::Refused(n) => put_refusal(n),
     }
 }

@@ -1,6 +1,5 @@
 pub mod Tests
 pub mod Facts
 pub mod Residues
-pub mod Relations
 pub mod laws
 pub mod inner

@@ -1,6 +1,4 @@
 -- Change request P1: what scanning a list and a frame answers.
---   Numbers          the refusal's number or 0, the filter's number, the match set as a bit set
---   numbersOf a      these numbers for each case of the enum Scanned
 --   scanned l f p    what scanning the frame f, which came in at box port p, by the list l comes to
 use Prim.Native.Nat.{ℕ}
 use mathlib.Core.Bool.{cond}
@@ -16,16 +14,6 @@ use Rattle.lists.specs.declared.Listed.{Listed}
 use Rattle.lists.specs.declared.Listed.the-variants as L
 use Rattle.scanner.specs.declared.Scanned.{Scanned}
 use Rattle.scanner.specs.declared.Scanned.the-variants.{Matched, Refused}
-
-pub record Numbers : Type 0 where
-  pub refusal : ℕ
-  pub filter : ℕ
-  pub set : ℕ
-
--- A refusal has an empty set.
-abbrev pub numbersOf : Scanned → Numbers
-numbersOf (Matched s) = record { refusal = 0; filter = 0; set = s }
-numbersOf (Refused r i) = record { refusal = r; filter = i; set = 0 }
 
 -- The list's refusals, then 12, which names no filter; else the match set.
 unfoldable pub scannedBy : Listed → List ℕ → List ℕ → ℕ → Scanned

@@ -81,7 +81,7 @@ fn left_of(src: &[u32], at: usize, field: u32, fact: Fact) -> Residue
 }
 
 // One more test behind those kept so far: where the next one goes, or a place beyond the words where the filter is out.
-fn keep(dst: &mut [u32], end: usize, field: u32, rest: Residue) -> usize
+fn put_rest(dst: &mut [u32], end: usize, field: u32, rest: Residue) -> usize
     requires { ⌜ Room end (now dst) ⌝ }
     ensures { λ r. ⌜ Kept end field rest (now (dst .entry)) (now (dst .exit)) r ⌝ }
 {
@@ -110,7 +110,7 @@ fn cut_tests(src: &[u32], dst: &mut [u32], field: u32, fact: Fact) -> usize
         if src[at] == 0 {
             return end;
         }
-        end = keep(dst, end, field_at(src, at), left_of(src, at, field, fact));
+        end = put_rest(dst, end, field_at(src, at), left_of(src, at, field, fact));
         if FILTER_WORDS < end {
             return end;
         }

@@ -10,7 +10,7 @@ ghost use Rattle.states.specs.States.{allLeft};
 ghost use Rattle.slots.specs.Words.{filterSlot};
 ghost use Rattle.slots.specs.inner.Words.{outWords, written};
 ghost use Rattle.slots.specs.inner.Slots.{heldSet, outSetIn, sureSetIn, closedIn, closedWords, questionIn, cutWords, stepQuestion, startWords, sameWords};
-ghost use Rattle.slots.specs.inner.Steps.{markedSet, State, Ranked, Both, Stepped, Starts};
+ghost use Rattle.slots.specs.inner.Steps.{markedSet, StateWords, Ranked, Both, Stepped, Starts};
 use filter::OUT;
 use lists::HEAD_WORDS;
 use lists::MAX_FILTERS;
@@ -30,7 +30,7 @@ pub const SLOT_WORDS: usize = MAX_FILTERS * FILTER_WORDS;
 const HELD: u32 = 0;
 
 // The words of a test; all 0 where there is none to ask.
-pub struct Question {
+pub struct Query {
     pub kind: u32,
     pub field: u32,
     pub mask: u32,
@@ -39,7 +39,7 @@ pub struct Question {
 
 // The filters whose first word is a mark.
 fn marked(w: &[u32], n: usize, mark: u32) -> Set
-    requires { ⌜ State n (now w) ⌝ }
+    requires { ⌜ StateWords n (now w) ⌝ }
     ensures { λ r. ⌜ r ≡ markedSet n mark (now (w .entry)) ⌝ }
 {
     let mut set: Set = 0;
@@ -52,14 +52,14 @@ fn marked(w: &[u32], n: usize, mark: u32) -> Set
 }
 
 pub fn held_set(w: &[u32], n: usize) -> Set
-    requires { ⌜ State n (now w) ⌝ }
+    requires { ⌜ StateWords n (now w) ⌝ }
     ensures { λ r. ⌜ r ≡ heldSet n (now (w .entry)) ⌝ }
 {
     marked(w, n, HELD)
 }
 
 pub fn out_set(w: &[u32], n: usize) -> Set
-    requires { ⌜ State n (now w) ⌝ }
+    requires { ⌜ StateWords n (now w) ⌝ }
     ensures { λ r. ⌜ r ≡ outSetIn n (now (w .entry)) ⌝ }
 {
     marked(w, n, OUT)
@@ -130,8 +130,8 @@ pub fn sure_set(w: &[u32], n: usize, ranks: &[Set]) -> Set
 }
 
 // The first test of the first filter that has any.
-pub fn question_of(w: &[u32], n: usize) -> Question
-    requires { ⌜ State n (now w) ⌝ }
+pub fn question_of(w: &[u32], n: usize) -> Query
+    requires { ⌜ StateWords n (now w) ⌝ }
     ensures { λ r. ⌜ r .kind ∷ r .field ∷ r .mask ∷ r .value ∷ [] ≡ questionIn n (now (w .entry)) ⌝ }
 {
     let mut i: usize = 0;
@@ -139,7 +139,7 @@ pub fn question_of(w: &[u32], n: usize) -> Question
         let at = FILTER_WORDS * i;
         let kind = w[at];
         if (kind != HELD) & (kind != OUT) {
-            return Question {
+            return Query {
                 kind,
                 field: w[at + lists::FIELD_AT],
                 mask: w[at + lists::MASK_AT],
@@ -148,7 +148,7 @@ pub fn question_of(w: &[u32], n: usize) -> Question
         }
         i += 1;
     }
-    Question {
+    Query {
         kind: 0,
         field: 0,
         mask: 0,
@@ -162,7 +162,7 @@ pub fn step_by(
     dst: &mut [u32],
     n: usize,
     ranks: &[Set],
-    asked: Question,
+    asked: Query,
     outcome: Outcome,
 )
     requires { ⌜ Stepped n (now ranks) (now src) (now dst) ⌝ }

@@ -1,15 +1,18 @@
 -- Document 01, "States and the table", third and fourth paragraph: a table is a run of records, and a record has the words of its question, its next numbers and its sets.
 --   setWords, recordWords, maxSlots   words a set and a record, and the most slots of a table
---   kindAt .. outAt           the places of a record's words; nextAt o is that of the next number at the outcome o
+--   holdsAt .. outAt          the places of a record's words behind its question's; nextAt o is that of the next number at the outcome o
 --   asWords s                 the words of a set
 --   recordWith q next s o     the record of a question's words, a next number for each outcome, a sure set and an out set
 --   slotsOf t                 the slots of the table t: its words divided by those of a record, whole part, at most 4,096
 --   wordOf t n j              word j of record n
+--   setAt word j              the set that the words from place j on say
+--   sureSetAt t n, outSetAt t n   the sets of record n
 use Prim.Native.Nat.{ℕ, _+_, _*_, _/_, min}
 use mathlib.Core.List.{List, [], _∷_, _++_}
 use lib.ListN.{length, getD}
 use Rattle.residue.specs.declared.Outcome.{Outcome}
 use Rattle.residue.specs.declared.Outcome.the-variants.{Holds, Fails, Absent}
+use Rattle.lists.specs.Filters.{testWords}
 
 abbrev pub maxSlots : ℕ
 maxSlots = 4096
@@ -17,30 +20,18 @@ maxSlots = 4096
 abbrev pub setWords : ℕ
 setWords = 1
 
--- The places of a record's words: its question, its next numbers, its sets.
-abbrev pub kindAt : ℕ
-kindAt = 0
-
-abbrev pub fieldAt : ℕ
-fieldAt = 1
-
-abbrev pub maskAt : ℕ
-maskAt = 2
-
-abbrev pub valueAt : ℕ
-valueAt = 3
-
+-- The places of a record's words: its question's, as in a list; its next numbers, its sets.
 abbrev pub holdsAt : ℕ
-holdsAt = 4
+holdsAt = testWords
 
 abbrev pub failsAt : ℕ
-failsAt = 5
+failsAt = holdsAt + 1
 
 abbrev pub absentAt : ℕ
-absentAt = 6
+absentAt = failsAt + 1
 
 abbrev pub sureAt : ℕ
-sureAt = 7
+sureAt = absentAt + 1
 
 abbrev pub outAt : ℕ
 outAt = sureAt + setWords
@@ -65,3 +56,12 @@ slotsOf t = min (length t / recordWords) maxSlots
 
 unfoldable pub wordOf : List ℕ → ℕ → ℕ → ℕ
 wordOf t n j = getD t (recordWords * n + j) 0
+
+unfoldable pub setAt : (ℕ → ℕ) → ℕ → ℕ
+setAt word j = word j
+
+unfoldable pub sureSetAt : List ℕ → ℕ → ℕ
+sureSetAt t n = setAt (wordOf t n) sureAt
+
+unfoldable pub outSetAt : List ℕ → ℕ → ℕ
+outSetAt t n = setAt (wordOf t n) outAt

@@ -12,22 +12,22 @@ pub const MAX_SLOTS: usize = 4096;
 // Words a set.
 pub const SET_WORDS: usize = 1;
 
-// The places of a record's words: its question, its next numbers, its sets.
-pub const KIND_AT: usize = 0;
+// The places of a record's words: its question's, as in a list; its next numbers, its sets.
+pub const KIND_AT: usize = lists::KIND_AT;
 
-pub const FIELD_AT: usize = 1;
+pub const FIELD_AT: usize = lists::FIELD_AT;
 
-pub const MASK_AT: usize = 2;
+pub const MASK_AT: usize = lists::MASK_AT;
 
-pub const VALUE_AT: usize = 3;
+pub const VALUE_AT: usize = lists::VALUE_AT;
 
-pub const HOLDS_AT: usize = 4;
+pub const HOLDS_AT: usize = lists::TEST_WORDS;
 
-pub const FAILS_AT: usize = 5;
+pub const FAILS_AT: usize = HOLDS_AT + 1;
 
-pub const ABSENT_AT: usize = 6;
+pub const ABSENT_AT: usize = FAILS_AT + 1;
 
-pub const SURE_AT: usize = 7;
+pub const SURE_AT: usize = ABSENT_AT + 1;
 
 pub const OUT_AT: usize = SURE_AT + SET_WORDS;
 // Words a record.

@@ -12,7 +12,7 @@ use lib.Dec.{leb}
 use lib.ListN.{length, take, drop, set, getD, length-set, take-append-drop, drop-of-length-le}
 use lib.Seq.{drop-cons, take-suc-set, drop-set-lt, drop-drop, length-take-le, append-snoc}
 use borrow.Author.Tests.{le-ltb, lt-ltb}
-use Rattle.text.specs.Text.{maxText, maxWord, separates, isDigit, tooLong, accepted, wordsOf, counted, shown, readOf, Reads}
+use Rattle.text.specs.Text.{maxText, maxWord, separates, isDigit, tooLong, readable, wordsOf, readOf, Reads}
 use Rattle.text.specs.inner.Items.{maxItems}
 use Rattle.text.specs.inner.Steps.{more, step}
 use Rattle.text.specs.declared.Place.{Place}
@@ -42,11 +42,11 @@ pub record Reading (t before words : List ℕ) (count : ℕ) (place : Place) (i 
 -- Where all bytes are read, or one is wrong, what was stored is the answer.
 module _ (t before words : List ℕ) (count : ℕ) (right : Bool) (r : Read) where
   comes-to :
-      shown r ≡ cond right (counted count) (shown Refused) →
+      r ≡ cond right (Words count) Refused →
       length t ≤ maxText → count ≤ length words → drop count words ≡ drop count before →
       scan Between t ≡ record { words = take count words; right = right } →
       Reads t before words r
-  unfolding tooLong accepted wordsOf readOf
+  unfolding tooLong readable wordsOf readOf
   comes-to n s l k e =
       let j = sym (scan-text t) ∙ e in
       let all = ap (λ (x : Scan). x .right) j in
@@ -90,7 +90,7 @@ module _ (words : List ℕ) (count v : ℕ) where
       drop-set-lt (count + 1) words count v (omega arith) ∙ sym (drop-drop 1 count words) ∙ ap (drop 1) k ∙ drop-drop 1 count before
 
 pub too-long : (t before : List ℕ) → maxText < length t → Reads t before before Refused
-unfolding tooLong accepted wordsOf readOf
+unfolding tooLong readable wordsOf readOf
 too-long t before h = record { answer = rw (lt-ltb _ _ h); words = rw (lt-ltb _ _ h) }
 
 pub begun : (t before : List ℕ) → length t ≤ maxText → maxItems ≤ length before → Reading t before before 0 Between 0
@@ -126,8 +126,8 @@ module _ (t before words : List ℕ) (count : ℕ) (place : Place) (i : ℕ) (r 
         rest = rw (r .rest, scan-next h, e);
       }
 
-  pub refused : i < length t → step place (getD t i 0) ≡ Wrong → Reads t before words Refused
-  refused h e =
+  pub wrong-read : i < length t → step place (getD t i 0) ≡ Wrong → Reads t before words Refused
+  wrong-read h e =
       comes-to t before words count false Refused refl (r .short) (omega arith) (r .kept)
       (rw (r .rest, scan-next h, e, append-nil (take count words)))
 

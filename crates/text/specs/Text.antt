@@ -4,15 +4,13 @@
 --   runs t             the text cut at every separator: what stands between them, empty runs too
 --   items t            the runs that are not empty
 --   isDigit b          the byte is one of 0 to 9
---   valueOf item       the decimal number that the item's bytes spell
+--   decimal item       the decimal number that the item's bytes spell
 --   isNumber item      digits only, and the number is at most maxWord
 --   tooLong t          more bytes than maxText
---   accepted t         refusal 14 is not met: the text is not too long, and every item is a number
+--   readable t         refusal 14 is not met: the text is not too long, and every item is a number
 --   wordsOf t          the numbers of the items before the first that is no number; none of a text that is too long
 --   textRefusal        14
---   Shown              the refusal's number or 0, and the number of words or, with the refusal, 0
---   shown r            document 01's numbers for each case of the enum Read
---   readOf t           the numbers of the answer to a text
+--   readOf t           the answer to a text
 --   Reads              what reading a text leaves in the lent words
 use Prim.Native.Nat.{ℕ, _+_, _-_, _*_}
 use mathlib.Core.Path.{_≡_}
@@ -41,13 +39,13 @@ unfoldable pub runs : List ℕ → List (List ℕ)
 runs [] = [] ∷ []
 runs (b ∷ bs) = cond (separates b) ([] ∷ runs bs) (onto b (runs bs))
 
-unfoldable pub full : List (List ℕ) → List (List ℕ)
-full [] = []
-full ([] ∷ rs) = full rs
-full ((b ∷ r) ∷ rs) = (b ∷ r) ∷ full rs
+unfoldable pub nonempty : List (List ℕ) → List (List ℕ)
+nonempty [] = []
+nonempty ([] ∷ rs) = nonempty rs
+nonempty ((b ∷ r) ∷ rs) = (b ∷ r) ∷ nonempty rs
 
 unfoldable pub items : List ℕ → List (List ℕ)
-items t = full (runs t)
+items t = nonempty (runs t)
 
 unfoldable pub isDigit : ℕ → Bool
 isDigit b = leb 48 b && leb b 57
@@ -61,11 +59,11 @@ unfoldable pub spelled : ℕ → List ℕ → ℕ
 spelled v [] = v
 spelled v (b ∷ bs) = spelled (v * 10 + (b - 48)) bs
 
-unfoldable pub valueOf : List ℕ → ℕ
-valueOf item = spelled 0 item
+unfoldable pub decimal : List ℕ → ℕ
+decimal item = spelled 0 item
 
 unfoldable pub isNumber : List ℕ → Bool
-isNumber item = digitsOnly item && leb (valueOf item) maxWord
+isNumber item = digitsOnly item && leb (decimal item) maxWord
 
 unfoldable pub allNumbers : List (List ℕ) → Bool
 allNumbers [] = true
@@ -74,13 +72,13 @@ allNumbers (item ∷ rest) = isNumber item && allNumbers rest
 -- The numbers of the items before the first that is no number.
 unfoldable pub numbers : List (List ℕ) → List ℕ
 numbers [] = []
-numbers (item ∷ rest) = cond (isNumber item) (valueOf item ∷ numbers rest) []
+numbers (item ∷ rest) = cond (isNumber item) (decimal item ∷ numbers rest) []
 
 unfoldable pub tooLong : List ℕ → Bool
 tooLong t = ltb maxText (length t)
 
-unfoldable pub accepted : List ℕ → Bool
-accepted t = not (tooLong t) && allNumbers (items t)
+unfoldable pub readable : List ℕ → Bool
+readable t = not (tooLong t) && allNumbers (items t)
 
 unfoldable pub wordsOf : List ℕ → List ℕ
 wordsOf t = cond (tooLong t) [] (numbers (items t))
@@ -88,25 +86,10 @@ wordsOf t = cond (tooLong t) [] (numbers (items t))
 abbrev pub textRefusal : ℕ
 textRefusal = 14
 
-pub record Shown : Type 0 where
-  pub refusal : ℕ
-  pub number : ℕ
-
-abbrev pub counted : ℕ → Shown
-counted n = record { refusal = 0; number = n }
-
--- No filter is to blame: its number is 0.
-abbrev pub refused : Shown
-refused = record { refusal = textRefusal; number = 0 }
-
-abbrev pub shown : Read → Shown
-shown (Words n) = counted n
-shown Refused = refused
-
-unfoldable pub readOf : List ℕ → Shown
-readOf t = cond (accepted t) (counted (length (wordsOf t))) refused
+unfoldable pub readOf : List ℕ → Read
+readOf t = cond (readable t) (Words (length (wordsOf t))) Refused
 
 -- The words of the text stand first, and the words behind them are as before.
 pub record Reads (t before after : List ℕ) (r : Read) : Type 0 where
-  pub answer : shown r ≡ readOf t
+  pub answer : r ≡ readOf t
   pub words : after ≡ wordsOf t ++ drop (length (wordsOf t)) before

@@ -4,7 +4,7 @@ ghost use Prim.Native.Nat.{_≤_};
 ghost use lib.ListN.{length};
 ghost use Rattle.text.specs.Text.{maxText, separates, isDigit, Reads};
 ghost use Rattle.text.specs.inner.Items.{maxItems};
-ghost use Rattle.text.specs.inner.Steps.{valueAt, ended, more, step};
+ghost use Rattle.text.specs.inner.Steps.{spelledAt, ended, more, step};
 
 // What a text comes to: so many words, or refusal 14.
 pub enum Read {
@@ -40,7 +40,7 @@ fn is_digit(byte: u8) -> bool
 
 // The number so far: an item's first digit goes behind nothing, which counts 0.
 fn value_at(place: Place) -> u32
-    ensures { λ r. ⌜ r ≡ valueAt place ⌝ }
+    ensures { λ r. ⌜ r ≡ spelledAt place ⌝ }
 {
     match place {
         Place::Between => 0,

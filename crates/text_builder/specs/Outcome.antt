@@ -3,9 +3,9 @@
 use Prim.Native.Nat.{ℕ}
 use mathlib.Core.Bool.{cond}
 use mathlib.Core.List.{List}
-use Rattle.text.specs.Text.{textRefusal, accepted, wordsOf}
+use Rattle.text.specs.Text.{textRefusal, readable, wordsOf}
 use Rattle.builder.specs.Outcome.{Left, refused, outcome}
 
 -- Refusal 14 comes before all else, names no filter and changes no word; an accepted text is the list of its words.
 unfoldable pub textOutcome : List ℕ → List ℕ → List ℕ → Left
-textOutcome x t s = cond (accepted x) (outcome (wordsOf x) t s) (refused textRefusal 0 t s)
+textOutcome x t s = cond (readable x) (outcome (wordsOf x) t s) (refused textRefusal 0 t s)

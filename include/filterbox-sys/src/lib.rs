@@ -3,6 +3,9 @@
 //!
 //! A new call takes its line in `calls!` and a function below it that takes slices.
 
+/// A set of filters: filter i is bit i.
+pub type Set = u32;
+
 /// What building answers.
 #[repr(C)]
 #[derive(Clone, Copy, PartialEq, Eq, Debug)]
@@ -17,8 +20,8 @@ pub struct Built {
 pub struct Answer {
     pub ended: u32,
     pub refusal: u32,
-    pub sure: u32,
-    pub out: u32,
+    pub sure: Set,
+    pub out: Set,
     pub asked: u32,
 }
 
@@ -28,7 +31,7 @@ pub struct Answer {
 pub struct Scanned {
     pub refusal: u32,
     pub filter: u32,
-    pub set: u32,
+    pub set: Set,
 }
 
 /// Whether this program has the library's code in it; without it a call panics.

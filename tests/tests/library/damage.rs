@@ -204,7 +204,7 @@ fn foreign_tables(coverage: &mut Coverage) {
         let slots = random.between(1, 24) as u32;
         let states = random.between(1, slots as usize) as u32;
         let mut table: Vec<u32> = (0..slots).flat_map(|_| foreign_record(random, states)).collect();
-        table.extend((0..random.below(9)).map(|_| random.word()));
+        table.extend((0..random.below(RECORD_WORDS)).map(|_| random.word()));
         let frames = frames_for(random, &table);
         try_all(&table, states, &frames, coverage);
     }

@@ -41,7 +41,7 @@ fn build_at(list: &[u32], slots: usize, odd: usize, end: Place, coverage: &mut C
 fn builds(coverage: &mut Coverage) {
     for end in ENDS {
         for slots in [0, 1, 9, 10, 11] {
-            build_at(&ECHO, slots, slots % 9, end, coverage);
+            build_at(&ECHO, slots, slots % RECORD_WORDS, end, coverage);
             build_at(&[], slots, 0, end, coverage);
         }
         for cut in 0..ECHO.len() {
@@ -54,7 +54,7 @@ fn builds(coverage: &mut Coverage) {
             let Some(records) = records(&filters, 100) else { continue };
             for fewer in [0, 1] {
                 let slots = records.len() - fewer;
-                build_at(&words(&filters), slots, random.below(9), end, coverage);
+                build_at(&words(&filters), slots, random.below(RECORD_WORDS), end, coverage);
             }
         }
     }

@@ -48,18 +48,18 @@ fn build_case(random: &mut Random, filters: &[Filter], coverage: &mut Coverage) 
     let slot_words = library().scratch_words();
     let room = |slots: usize, odd: usize| (slots * RECORD_WORDS + odd, slots * slot_words);
     let Some(states) = records(filters, SLOTS).map(|records| records.len()) else {
-        let (table, scratch) = room(random.between(SLOTS - 50, SLOTS), random.below(9));
+        let (table, scratch) = room(random.between(SLOTS - 50, SLOTS), random.below(RECORD_WORDS));
         assert_eq!(build(&list, table, scratch, coverage).built.refusal, 11);
         return None;
     };
     if random.once_in(3) {
-        let (table, scratch) = room(states - 1, random.below(9));
+        let (table, scratch) = room(states - 1, random.below(RECORD_WORDS));
         assert_eq!(build(&list, table, scratch, coverage).built.refusal, 11);
     }
     if random.once_in(3) {
-        let (table, scratch) = room(states, random.below(9));
+        let (table, scratch) = room(states, random.below(RECORD_WORDS));
         assert_eq!(build(&list, table, scratch - 1, coverage).built.refusal, 10);
     }
-    let (table, scratch) = room(states + random.pick(&[0, 0, 1, 7]), random.below(9));
+    let (table, scratch) = room(states + random.pick(&[0, 0, 1, 7]), random.below(RECORD_WORDS));
     Some(build(&list, table, scratch + random.below(5), coverage))
 }

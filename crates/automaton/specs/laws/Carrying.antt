@@ -1,8 +1,8 @@
--- A machine carried to another: an encoding that respects asks and step carries what outcomes reach, though it may take two states to one; one that respects same too carries the states met, their records and how they are placed.
+-- A machine carried to another: an encoding that respects asks, step and same carries the states met, their records and how they are placed.
 --   Carried M N Good enc      enc takes the good states of M to states of N that ask, step and read alike
 --   SameCarried M N Good enc  they compare alike
 use Prim.Native.Nat.{ℕ, suc, _+_, _<_}
-use mathlib.Core.Path.{_≡_, refl, sym, ap, _∙_, subst}
+use mathlib.Core.Path.{_≡_, refl, ap, _∙_}
 use mathlib.Core.Bool.{Bool, true, false, cond, _||_}
 use mathlib.Core.List.{List, [], _∷_, _++_, map, map-append}
 use lib.Dec.{leb}
@@ -12,10 +12,9 @@ use Rattle.residue.specs.declared.Outcome.the-variants.{Holds, Fails, Absent}
 use Rattle.tables.specs.Tables.{recordWith}
 use Rattle.automaton.specs.Machines.{Machine, meets, placeOf, visit, nextsOf, recordOf}
 use Rattle.automaton.specs.laws.Lists.{each-nil, each-cons, each-head, each-tail, each-append, Each}
-use Rattle.automaton.specs.Lawful.{Reached, start, further}
 use Rattle.automaton.specs.inner.Lawful.{Lawful}
 use Rattle.automaton.specs.laws.Visited.{Visits, old, final, asking, visits-exist, visits-visit}
-use Rattle.automaton.specs.laws.Reaching.{reached-good, visits-good}
+use Rattle.automaton.specs.laws.Reaching.{visits-good}
 use Rattle.automaton.specs.inner.Placing.{slotless, slotted, placeAll}
 use Rattle.automaton.specs.laws.MetPlaced.{holding, Fit, placed-visits}
 
@@ -28,26 +27,6 @@ pub record Carried (M N : Machine) (Good : M .State → Type 0) (enc : M .State 
 
 pub record SameCarried (M N : Machine) (Good : M .State → Type 0) (enc : M .State → N .State) : Type 0 where
   pub same-carried : (a b : M .State) → Good a → Good b → N .same (enc a) (enc b) ≡ M .same a b
-
--- ---- what outcomes reach
-
-module _ {M N : Machine} {Good : M .State → Type 0} {left : M .State → ℕ} {enc : M .State → N .State}
-    (law : Lawful M Good left) (carried : Carried M N Good enc) where
-  pub reached-carried : {s t : M .State} → Good s → Reached M s t → Reached N (enc s) (enc t)
-  reached-carried g start = start
-  reached-carried {s} g (further {t = t} o way asks) =
-      let good = reached-good law g way in
-      subst (Reached N (enc s)) (carried .step-carried o t good asks) (further o (reached-carried g way) (carried .asks-carried t good ∙ asks))
-
-  -- And nothing else is reached.
-  pub carried-reached : {s : M .State} {u : N .State} → Good s → Reached N (enc s) u → (t : M .State) × Reached M s t × (u ≡ enc t)
-  carried-reached {s} g start = (s, start, refl)
-  carried-reached g (further {t = u} o way asks) =
-      let back = carried-reached g way in
-      let t = back .0 in
-      let good = reached-good law g (back .1) in
-      let question : M .asks t ≡ true = sym (carried .asks-carried t good) ∙ ap (N .asks) (sym (back .2)) ∙ asks in
-      (M .step o t, further o (back .1) question, ap (N .step o) (back .2) ∙ carried .step-carried o t good question)
 
 -- ---- which states are met
 

@@ -10,7 +10,7 @@ use Rattle.lists.specs.Filters.{filtersOf}
 use Rattle.lists.specs.laws.Ranking.{length-rankSets}
 use Rattle.words.specs.Lent.{cleared}
 use Rattle.tables.specs.Tables.{recordWords, slotsOf}
-use Rattle.builder.specs.Outcome.{Answered, accepted}
+use Rattle.builder.specs.Outcome.{Answered, byRoom}
 use Rattle.builder.specs.laws.Finished as F
 use Rattle.builder.specs.declared.Built.the-variants as B
 use borrow.Author.Needs.{needs}
@@ -92,7 +92,7 @@ returns-2 c =
     let s = q .before .before .before .before in
     let a = s .args in
     let u = c .before .extent .given in
-    subst (λ (x : List ℕ). Answered (accepted (filtersOf (now (a .list))) (now (a .table)) (now (a .scratch))) (B.States (u .0 .0)) (v .place-start .last .1 .1 .1 .1 .0) x) (sym (w .clear .ensures))
+    subst (λ (x : List ℕ). Answered (byRoom (filtersOf (now (a .list))) (now (a .table)) (now (a .scratch))) (B.States (u .0 .0)) (v .place-start .last .1 .1 .1 .1 .0) x) (sym (w .clear .ensures))
     (F.finished (now (a .list)) (a .n) (k .rank-sets .last .1 .0) (now (a .table)) (now (a .scratch)) (q .slots-of .result) (s .pre) (q .slots-of .ensures) (k .rank-sets .ensures) (k .before .before .if1 .left) (v .place-start .result) (v .place-start .last .1 .1 .1 .1 .0) (v .place-start .last .1 .1 .1 .1 .1 .0) (v .place-start .ensures) (u .0 .0) (u .1) (v .place-start .kept .1 .1 .1 .1 .0))
 
 same-length-3 : tie.Need-same-length-3
@@ -112,8 +112,8 @@ returns-3 c =
     let q = k .before .before .before in
     let s = q .before .before .before .before in
     let a = s .args in
-    subst (λ (y : List ℕ). Answered (accepted (filtersOf (now (a .list))) (now (a .table)) (now (a .scratch))) (B.Refused 11 0) y (w .clear .last .0)) (sym (x .clear2 .ensures))
-    (subst (λ (y : List ℕ). Answered (accepted (filtersOf (now (a .list))) (now (a .table)) (now (a .scratch))) (B.Refused 11 0) (cleared (recordWords * q .slots-of .result) (v .place-start .last .1 .1 .1 .1 .0)) y) (sym (w .clear .ensures))
+    subst (λ (y : List ℕ). Answered (byRoom (filtersOf (now (a .list))) (now (a .table)) (now (a .scratch))) (B.Refused 11 0) y (w .clear .last .0)) (sym (x .clear2 .ensures))
+    (subst (λ (y : List ℕ). Answered (byRoom (filtersOf (now (a .list))) (now (a .table)) (now (a .scratch))) (B.Refused 11 0) (cleared (recordWords * q .slots-of .result) (v .place-start .last .1 .1 .1 .1 .0)) y) (sym (w .clear .ensures))
     (F.finished-slotless (now (a .list)) (a .n) (k .rank-sets .last .1 .0) (now (a .table)) (now (a .scratch)) (q .slots-of .result) (s .pre) (q .slots-of .ensures) (k .rank-sets .ensures) (k .before .before .if1 .left) (v .place-start .result) (v .place-start .last .1 .1 .1 .1 .0) (v .place-start .last .1 .1 .1 .1 .1 .0) (v .place-start .ensures) (e .enum-told .given .1)))
 
 pub build-accepted-spec : {M : Type 1} → statement M

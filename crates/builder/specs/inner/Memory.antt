@@ -2,7 +2,7 @@
 --   slotAt n s i        the words of the state in slot i, of a list of n filters
 --   memoryOf n u t s    the first u states and their records
 --   outOf r t s         what the answer r says of the words left behind
---   foundIn n ranks met c   where the candidate c stands among the states met, if it does; Extent and Found as in the code
+--   soughtIn n ranks met c   where the candidate c stands among the states met, if it does; Extent and Sought as in the code
 use Prim.Native.Nat.{ℕ, _*_}
 use mathlib.Core.Bool.{cond}
 use mathlib.Core.List.{List}
@@ -15,8 +15,8 @@ use Rattle.automaton.specs.Machines.{meets, placeOf}
 use Rattle.automaton.specs.inner.Placing.{Memory, Placement, slotless, slotted}
 use Rattle.builder.specs.declared.Extent.{Extent}
 use Rattle.builder.specs.declared.Extent.the-variants as R
-use Rattle.builder.specs.declared.Found.{Found}
-use Rattle.builder.specs.declared.Found.the-variants as F
+use Rattle.builder.specs.declared.Sought.{Sought}
+use Rattle.builder.specs.declared.Sought.the-variants as F
 
 unfoldable pub slotAt : ℕ → List ℕ → ℕ → List ℕ
 slotAt n s i = take (filterSlot * n) (drop (slotWords * i) s)
@@ -35,5 +35,5 @@ outOf n ranks R.Slotless t s = slotless
 outOf n ranks (R.Used u) t s = slotted (memoryOf n ranks u t s)
 
 -- Where the candidate c stands among the states met, if it does.
-unfoldable pub foundIn : (n : ℕ) (ranks : List ℕ) → List (List ℕ) → List ℕ → Found
-foundIn n ranks met c = cond (meets (slotsIn n ranks) met c) (F.At (placeOf (slotsIn n ranks) met c)) F.Nothing
+unfoldable pub soughtIn : (n : ℕ) (ranks : List ℕ) → List (List ℕ) → List ℕ → Sought
+soughtIn n ranks met c = cond (meets (slotsIn n ranks) met c) (F.At (placeOf (slotsIn n ranks) met c)) F.Nothing

@@ -24,7 +24,7 @@ use Rattle.automaton.specs.inner.Placing.{Memory, Placement, slotless, slotted}
 use Rattle.automaton.specs.laws.MetPlaced.{holding}
 use Rattle.machine.specs.Box.{boxOf, statesOf, recordsIn}
 use Rattle.machine.specs.inner.Slots.{slotsIn}
-use Rattle.builder.specs.Outcome.{Left, tableWords, scratchWords, refused, noRoom, placed, accepted, outcomeBy, outcome, Answered}
+use Rattle.builder.specs.Outcome.{Left, tableWords, scratchWords, refused, noRoom, placed, byRoom, outcomeBy, outcome, Answered}
 use Rattle.builder.specs.inner.Memory.{recordsAt, memoryOf, outOf}
 use Rattle.builder.specs.laws.WaysPlaced.{length-states}
 use Rattle.builder.specs.declared.Extent.{Extent}
@@ -105,15 +105,15 @@ module _ (n : ℕ) (ranks : List ℕ) (fs : List Filter) (t s t' s' : List ℕ) 
 
   pub built-states : (u : ℕ) (r : Extent) → r ≡ R.Used u → Started n (slotsOf t) ranks fs t s r t' s'
       → slotWords * slotsOf t ≤ length s → recordWords * slotsOf t ≤ length t'
-      → Answered (accepted fs t s) (B.States u) t' (cleared (slotWords * slotsOf t) s')
-  unfolding accepted placed
+      → Answered (byRoom fs t s) (B.States u) t' (cleared (slotWords * slotsOf t) s')
+  unfolding byRoom placed
   built-states u r e came₀ hs ht =
       let came : Started n (slotsOf t) ranks fs t s (R.Used u) t' s' =
       subst (λ (x : Extent). Started n (slotsOf t) ranks fs t s x t' s') e came₀ in
-      let same : accepted fs t s ≡ placed fs t s = rw (enough hs, le-ltb (slotsOf t) (length (statesOf fs)) (fits u came)) in
+      let same : byRoom fs t s ≡ placed fs t s = rw (enough hs, le-ltb (slotsOf t) (length (statesOf fs)) (fits u came)) in
       subst (λ (l : Left). Answered l (B.States u) t' (cleared (slotWords * slotsOf t) s')) (sym same)
       (record {
-        answer = ap (λ (k : ℕ). record { built = 1; refusal = 0; number = k }) (states-are u came);
+        answer = ap B.States (states-are u came);
         table = table-is u came ht;
         scratch = cleared-scratch (R.Used u) came;
       })
@@ -130,12 +130,12 @@ module _ (n : ℕ) (ranks : List ℕ) (fs : List Filter) (t s t' s' : List ℕ) 
 
   pub built-slotless : (r : Extent) → r ≡ R.Slotless → Started n (slotsOf t) ranks fs t s r t' s'
       → slotWords * slotsOf t ≤ length s
-      → Answered (accepted fs t s) (B.Refused 11 0) (cleared (recordWords * slotsOf t) t') (cleared (slotWords * slotsOf t) s')
-  unfolding accepted noRoom
+      → Answered (byRoom fs t s) (B.Refused 11 0) (cleared (recordWords * slotsOf t) t') (cleared (slotWords * slotsOf t) s')
+  unfolding byRoom noRoom
   built-slotless r e came₀ hs =
       let came : Started n (slotsOf t) ranks fs t s R.Slotless t' s' =
       subst (λ (x : Extent). Started n (slotsOf t) ranks fs t s x t' s') e came₀ in
-      let same : accepted fs t s ≡ noRoom t s = rw (enough hs, lt-ltb (slotsOf t) (length (statesOf fs)) (fuller (leb (length (statesOf fs)) (slotsOf t)) refl came)) in
+      let same : byRoom fs t s ≡ noRoom t s = rw (enough hs, lt-ltb (slotsOf t) (length (statesOf fs)) (fuller (leb (length (statesOf fs)) (slotsOf t)) refl came)) in
       subst (λ (l : Left). Answered l (B.Refused 11 0) (cleared (recordWords * slotsOf t) t') (cleared (slotWords * slotsOf t) s')) (sym same)
       (record {
         answer = refl;
@@ -144,18 +144,26 @@ module _ (n : ℕ) (ranks : List ℕ) (fs : List Filter) (t s t' s' : List ℕ) 
       })
 
 -- The outcome goes by what reading the list comes to.
+-- A number of states is no refusal.
+abbrev refuses : Built → ℕ
+refuses (B.States n) = 0
+refuses (B.Refused r i) = 1
+
+pub states-unrefused : (n r i : ℕ) → B.States n ≡ B.Refused r i → ⊥
+states-unrefused n r i e = omega (arith, ap refuses e)
+
 pub answered-refused : (l t s : List ℕ) (r i : ℕ) → listed l ≡ Refused r i → Answered (outcome l t s) (B.Refused r i) t s
 unfolding outcome outcomeBy refused
 answered-refused l t s r i e =
     subst (λ (x : Listed). Answered (outcomeBy x l t s) (B.Refused r i) t s) (sym e) (record { answer = refl; table = refl; scratch = refl })
 
-pub answered-accepted : (l t s : List ℕ) (n k : ℕ) → listed l ≡ Accepted n k → (b : Built) (t' s' : List ℕ) → Answered (accepted (filtersOf l) t s) b t' s'
+pub answered-accepted : (l t s : List ℕ) (n k : ℕ) → listed l ≡ Accepted n k → (b : Built) (t' s' : List ℕ) → Answered (byRoom (filtersOf l) t s) b t' s'
     → Answered (outcome l t s) b t' s'
 unfolding outcome outcomeBy
 answered-accepted l t s n k e b t' s' a = subst (λ (x : Listed). Answered (outcomeBy x l t s) b t' s') (sym e) a
 
-pub answered-short : (l t s : List ℕ) → length s < slotWords * slotsOf t → Answered (accepted (filtersOf l) t s) (B.Refused 10 0) t s
-unfolding accepted refused scratchWords
+pub answered-short : (l t s : List ℕ) → length s < slotWords * slotsOf t → Answered (byRoom (filtersOf l) t s) (B.Refused 10 0) t s
+unfolding byRoom refused scratchWords
 answered-short l t s h =
-    let same : accepted (filtersOf l) t s ≡ refused 10 0 t s = rw (lt-ltb (length s) (slotWords * slotsOf t) h) in
+    let same : byRoom (filtersOf l) t s ≡ refused 10 0 t s = rw (lt-ltb (length s) (slotWords * slotsOf t) h) in
     subst (λ (x : Left). Answered x (B.Refused 10 0) t s) (sym same) (record { answer = refl; table = refl; scratch = refl })

@@ -12,7 +12,7 @@ use Rattle.lists.specs.declared.Listed.the-variants.{Accepted}
 use Rattle.words.specs.Lent.{cleared}
 use Rattle.tables.specs.Tables.{recordWords, maxSlots, slotsOf}
 use Rattle.slots.specs.Words.{slotWords}
-use Rattle.builder.specs.Outcome.{accepted, Answered}
+use Rattle.builder.specs.Outcome.{byRoom, Answered}
 use Rattle.builder.specs.laws.Building.{built-states, built-slotless, answered-short}
 use Rattle.builder.specs.inner.Started.{Startable, Started}
 use Rattle.builder.specs.inner.Promises.{Grown}
@@ -29,7 +29,7 @@ unfolding slotsOf
 slots-few t = omega arith
 
 module _ (l : List ℕ) (n : ℕ) (ranks t s : List ℕ) (slots : ℕ) (accepts : (k : ℕ) × (listed l ≡ Accepted n k)) (count : slots ≡ slotsOf t) where
-  pub short : length s < slotWords * slots → Answered (accepted (filtersOf l) t s) (B.Refused 10 0) t s
+  pub short : length s < slotWords * slots → Answered (byRoom (filtersOf l) t s) (B.Refused 10 0) t s
   short h = answered-short l t s (subst (λ (m : ℕ). length s < slotWords * m) count h)
 
   module _ (ranked : ranks ≡ rankSets (filtersOf l)) (asked : slotWords * slots ≤ length s) where
@@ -50,14 +50,14 @@ module _ (l : List ℕ) (n : ℕ) (ranks t s : List ℕ) (slots : ℕ) (accepts 
       scratched : slotWords * slotsOf t ≤ length s
       scratched = subst (λ (m : ℕ). slotWords * m ≤ length s) count asked
 
-      pub finished : (u : ℕ) → r ≡ R.Used u → length t' ≡ length t → Answered (accepted (filtersOf l) t s) (B.States u) t' (cleared (slotWords * slots) s')
+      pub finished : (u : ℕ) → r ≡ R.Used u → length t' ≡ length t → Answered (byRoom (filtersOf l) t s) (B.States u) t' (cleared (slotWords * slots) s')
       finished u e long =
-          subst (λ (m : ℕ). Answered (accepted (filtersOf l) t s) (B.States u) t' (cleared (slotWords * m) s')) (sym count)
+          subst (λ (m : ℕ). Answered (byRoom (filtersOf l) t s) (B.States u) t' (cleared (slotWords * m) s')) (sym count)
           (built-states n ranks (filtersOf l) t s t' s' u r e by-slots scratched (subst (λ (m : ℕ). recordWords * slotsOf t ≤ m) (sym long) (slots-tabled t)))
 
-      pub finished-slotless : r ≡ R.Slotless → Answered (accepted (filtersOf l) t s) (B.Refused 11 0) (cleared (recordWords * slots) t') (cleared (slotWords * slots) s')
+      pub finished-slotless : r ≡ R.Slotless → Answered (byRoom (filtersOf l) t s) (B.Refused 11 0) (cleared (recordWords * slots) t') (cleared (slotWords * slots) s')
       finished-slotless e =
-          subst (λ (m : ℕ). Answered (accepted (filtersOf l) t s) (B.Refused 11 0) (cleared (recordWords * m) t') (cleared (slotWords * m) s')) (sym count)
+          subst (λ (m : ℕ). Answered (byRoom (filtersOf l) t s) (B.Refused 11 0) (cleared (recordWords * m) t') (cleared (slotWords * m) s')) (sym count)
           (built-slotless n ranks (filtersOf l) t s t' s' r e by-slots scratched)
 
       -- The number of states fits a word.

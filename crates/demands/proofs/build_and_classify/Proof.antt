@@ -2,8 +2,7 @@
 -- Assumes nothing.
 use borrow.Author.Needs.{needs}
 use native.Mathlib.Omega.{arith}
-use mathlib.Core.Path.{sym, ap, _∙_}
-use Rattle.builder.specs.Outcome.{shown}
+use mathlib.Core.Path.{sym, _∙_}
 use Rattle.demands.specs.laws.Whole.{whole-built, whole-refused}
 use Rattle.demands.proofs.build_and_classify.Statement.{statement}
 use Rattle.demands.proofs.build_and_classify.Tie as tie
@@ -32,7 +31,7 @@ returns c =
     let after = met .before .before .before .before .before .before in
     let start = after .before .before .before in (
       whole-built _ _ _ _ _ _ (met .states .given .0 .0) _ (c .classify .result)
-          (ap shown (sym (met .states .given .1)) ∙ after .build .ensures .answer)
+          (sym (met .states .given .1) ∙ after .build .ensures .answer)
           (after .build .ensures .table)
           (c .classify .ensures)
           (start .shared-slice-known2 .given)
@@ -50,7 +49,7 @@ returns-2 : tie.Need-returns-2
 returns-2 c =
     let met = c .before .number .given in
     let after = c .before .before .before .before .before .before .before in (
-      whole-refused _ _ _ _ _ _ (met .0 .0) (met .0 .1 .0) (ap shown (sym (met .1)) ∙ after .build .ensures .answer),
+      whole-refused _ _ _ _ _ _ (met .0 .0) (met .0 .1 .0) (sym (met .1) ∙ after .build .ensures .answer),
       record { table = after .build .ensures .table; scratch = after .build .ensures .scratch },
     )
 

@@ -18,8 +18,8 @@ use Rattle.states.specs.laws.Keeps.{by-question, step-ask}
 use Rattle.automaton.specs.Machines.{meets, placeOf, nextsOf}
 use Rattle.automaton.specs.laws.Lists.{getD-mem}
 use Rattle.automaton.specs.laws.Places.{mem-meets, place-below}
-use Rattle.tables.specs.Tables.{recordWords, maxSlots, slotsOf, wordOf, sureAt, outAt}
-use Rattle.tables.specs.inner.Records.{setAt, questionAt, wayAt, sureSetAt, outSetAt}
+use Rattle.tables.specs.Tables.{recordWords, maxSlots, slotsOf, sureSetAt, outSetAt}
+use Rattle.tables.specs.inner.Records.{questionAt, wayAt}
 use Rattle.tables.specs.laws.Least.{slots-least}
 use Rattle.slots.specs.Words.{questionWords}
 use Rattle.machine.specs.Box.{boxOf, statesOf, recordsIn}
@@ -50,12 +50,10 @@ module _ (fs : List Filter) (h : wellFilters fs ≡ true) (rest : List ℕ) wher
     is-met : meets (boxOf fs) met (give n) ≡ true
     is-met = mem-meets (box-lawful fs) good (getD-mem met n [] l)
 
-    sure-at : wordOf table n sureAt ≡ sureSet fs (give n)
-    unfolding sureSetAt setAt
+    sure-at : sureSetAt table n ≡ sureSet fs (give n)
     sure-at = front-spells fs h rest n l .sure
 
-    out-at : wordOf table n outAt ≡ outSet fs (give n)
-    unfolding outSetAt setAt
+    out-at : outSetAt table n ≡ outSet fs (give n)
     out-at = front-spells fs h rest n l .out
 
     -- ---- a final state

@@ -21,10 +21,11 @@ use Rattle.states.specs.laws.Keeps.{question-left}
 use Rattle.states.specs.laws.Paths.{after}
 use Rattle.tables.specs.Tables.{recordWords, maxSlots, slotsOf}
 use Rattle.machine.specs.Box.{recordsIn}
+use Rattle.matcher.specs.Walk.{found, isDone}
 use Rattle.scanner.specs.Scan.{scanned}
 use Rattle.scanner.specs.laws.Scans.{scanned-set}
 use Rattle.scanner.specs.declared.Scanned.the-variants.{Matched}
-use Rattle.builder.specs.Outcome.{placed, outcome}
+use Rattle.builder.specs.Outcome.{refusalOf, numberOf, placed, outcome}
 use Rattle.labels.specs.Labels.{shownAt, Legal}
 use Rattle.labels.specs.inner.Labelled.{LabelledBy}
 use Rattle.labels.specs.laws.Truths.{Shows, open-member, legal-widths, labelled-shows, labelled-keeps, picked-run, shows-done, shows-matches, shows-set, shows-settled, shows-sure, shows-out, shows-asked}
@@ -36,14 +37,14 @@ few-slots : (t : List ℕ) (m : ℕ) → m ≤ slotsOf t → m ≤ maxSlots
 unfolding slotsOf
 few-slots t m l = omega (arith, min-le-right (length t / recordWords) maxSlots)
 
-module _ (l t s : List ℕ) (built : outcome l t s .answer .refusal ≡ 0) where
+module _ (l t s : List ℕ) (built : refusalOf (outcome l t s .answer) ≡ 0) where
   abbrev fs : List Filter
   fs = filtersOf l
 
   success : Success l t s
   success = build-success l t s built
 
-  pub table-labelled : LabelledBy Picked fs (outcome l t s .table) (outcome l t s .answer .number)
+  pub table-labelled : LabelledBy Picked fs (outcome l t s .table) (numberOf (outcome l t s .answer))
   unfolding placed
   table-labelled = rw (success .left) (built-labelled fs (success .well) (drop (length (recordsIn fs)) t) (few-slots t _ (success .fits)))
 
@@ -60,37 +61,37 @@ module _ (l t s : List ℕ) (built : outcome l t s .answer .refusal ≡ 0) where
     pub exact : (a : ℕ) → walked l t s f p a ≡ shownAt fs (after fs r a) (askedIn fs r a (start fs))
     exact a = picked-run (shows a)
 
-    pub all-done : (a : ℕ) → testsIn fs ≤ a → walked l t s f p a .ended ≡ 1
+    pub all-done : (a : ℕ) → testsIn fs ≤ a → isDone (walked l t s f p a) ≡ true
     all-done a = shows-done question-left (success .well) widths (shows a)
 
-    pub all-matches : (a : ℕ) → testsIn fs ≤ a → (i : ℕ) → member i (walked l t s f p a .sure) ≡ matches fs r i
+    pub all-matches : (a : ℕ) → testsIn fs ≤ a → (i : ℕ) → member i (found (walked l t s f p a) .sure) ≡ matches fs r i
     all-matches a = shows-matches question-left (success .well) widths (shows a)
 
-    pub all-scanned : (a : ℕ) → testsIn fs ≤ a → scanned l f p ≡ Matched (walked l t s f p a .sure)
+    pub all-scanned : (a : ℕ) → testsIn fs ≤ a → scanned l f p ≡ Matched (found (walked l t s f p a) .sure)
     all-scanned a enough =
         scanned-set l f p (success .listing .0) (success .listing .1) (success .listing .2) (legal .short) ∙
         ap Matched (sym (shows-set question-left (success .well) widths (shows a) enough))
 
-    pub sure-so : (a i : ℕ) → member i (walked l t s f p a .sure) ≡ true → matches fs r i ≡ true
+    pub sure-so : (a i : ℕ) → member i (found (walked l t s f p a) .sure) ≡ true → matches fs r i ≡ true
     sure-so a = shows-sure question-left (success .well) widths (shows a)
 
-    pub out-so : (a i : ℕ) → member i (walked l t s f p a .out) ≡ true → matches fs r i ≡ false
+    pub out-so : (a i : ℕ) → member i (found (walked l t s f p a) .out) ≡ true → matches fs r i ≡ false
     out-so a = shows-out question-left (success .well) widths (shows a)
 
-    pub sure-kept : (a a' i : ℕ) → a ≤ a' → member i (walked l t s f p a .sure) ≡ true → member i (walked l t s f p a' .sure) ≡ true
+    pub sure-kept : (a a' i : ℕ) → a ≤ a' → member i (found (walked l t s f p a) .sure) ≡ true → member i (found (walked l t s f p a') .sure) ≡ true
     sure-kept a a' i more = labelled-keeps question-left (success .well) table-labelled f p legal a a' i more .0
 
-    pub out-kept : (a a' i : ℕ) → a ≤ a' → member i (walked l t s f p a .out) ≡ true → member i (walked l t s f p a' .out) ≡ true
+    pub out-kept : (a a' i : ℕ) → a ≤ a' → member i (found (walked l t s f p a) .out) ≡ true → member i (found (walked l t s f p a') .out) ≡ true
     out-kept a a' i more = labelled-keeps question-left (success .well) table-labelled f p legal a a' i more .1
 
     pub none-left :
         (a : ℕ) → testsIn fs ≤ a → (i : ℕ) → i < length fs →
-        (member i (walked l t s f p a .sure) ≡ true) ⊎ (member i (walked l t s f p a .out) ≡ true)
+        (member i (found (walked l t s f p a) .sure) ≡ true) ⊎ (member i (found (walked l t s f p a) .out) ≡ true)
     none-left a = shows-settled question-left (success .well) widths (shows a)
 
     -- In neither set is open.
-    pub open-so : (a i : ℕ) → i < length fs → (not (member i (walked l t s f p a .sure)) && not (member i (walked l t s f p a .out))) ≡ isOpen fs (after fs r a) i
+    pub open-so : (a i : ℕ) → i < length fs → (not (member i (found (walked l t s f p a) .sure)) && not (member i (found (walked l t s f p a) .out))) ≡ isOpen fs (after fs r a) i
     open-so a i inside = rw (exact a) (open-member fs (after fs r a) (askedIn fs r a (start fs)) i inside)
 
-    pub asked-few : (a : ℕ) → (walked l t s f p a .asked ≤ a) × (walked l t s f p a .asked ≤ testsIn fs)
+    pub asked-few : (a : ℕ) → (found (walked l t s f p a) .asked ≤ a) × (found (walked l t s f p a) .asked ≤ testsIn fs)
     asked-few a = shows-asked question-left (success .well) widths (shows a)

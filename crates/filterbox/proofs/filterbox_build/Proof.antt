@@ -2,7 +2,7 @@
 -- Assumes nothing.
 use mathlib.Core.Path.{_∙_, ap}
 use borrow.Author.Needs.{needs}
-use Rattle.builder.specs.Outcome.{Shown}
+use Rattle.filterbox.specs.Numbers.{builtWith}
 use Rattle.filterbox.proofs.filterbox_build.Statement.{statement}
 use Rattle.filterbox.proofs.filterbox_build.Tie as tie
 
@@ -21,13 +21,7 @@ same-length-2 c = search needs
 returns : tie.Need-returns
 returns c =
     let left = c .before .before .before .before .before .build .ensures in
-    let numbers = c .built-of .ensures in
-    record {
-      refusal = numbers .0 ∙ ap (λ (x : Shown). x .refusal) (left .answer);
-      number = numbers .1 ∙ ap (λ (x : Shown). x .number) (left .answer);
-      table = left .table;
-      scratch = left .scratch;
-    }
+    record { answer = c .built-of .ensures ∙ ap builtWith (left .answer); table = left .table; scratch = left .scratch }
 
 pub filterbox-build-spec : {M : Type 1} → statement M
 filterbox-build-spec =

@@ -1,6 +1,7 @@
 -- `filterbox::scanned_of` meets its contract: each arm has the numbers of its case.
 -- Assumes nothing.
 use borrow.Author.Needs.{needs}
+use Rattle.filterbox.specs.Numbers.{matched}
 use Rattle.filterbox.proofs.scanned_of.Statement.{statement}
 use Rattle.filterbox.proofs.scanned_of.Tie as tie
 
@@ -11,9 +12,11 @@ enum-known-answer-2 : tie.Need-enum-known-answer-2
 enum-known-answer-2 c = search needs
 
 returns : tie.Need-returns
+unfolding matched
 returns c = rw (c .before .answer .given .1)
 
 returns-2 : tie.Need-returns-2
+unfolding matched
 returns-2 c = rw (c .before .answer2 .given .1)
 
 pub scanned-of-spec : {M : Type 1} → statement M

@@ -2,7 +2,6 @@
 --   FinalRecord t n s       record n is final: zeros in its first seven words, and no test remains in s
 --   AskingRecord May fs t m give n   record n asks what may be asked of its state, and its ways lead to records of the states stepped to
 --   LabelledBy May fs t m   the first m records of the table t are given states of the list fs; May says what may be asked of a state
---   Labelled fs t m         any of its remaining tests
 use Prim.Native.Nat.{ℕ, _≤_, _<_}
 use mathlib.Core.Path.{_≡_}
 use mathlib.Core.Logic.{_⊎_}
@@ -12,8 +11,7 @@ use Rattle.residue.specs.declared.Outcome.the-variants.{Absent}
 use Rattle.lists.specs.Words.{itemWords}
 use Rattle.lists.specs.Filters.{Item, Filter}
 use Rattle.states.specs.States.{State, start, nothing, questionOf, stepBy, sureSet, outSet}
-use Rattle.states.specs.inner.Choices.{Chosen}
-use Rattle.tables.specs.Tables.{slotsOf, wordOf, sureAt, outAt}
+use Rattle.tables.specs.Tables.{slotsOf, sureSetAt, outSetAt}
 use Rattle.tables.specs.inner.Records.{questionAt, wayAt}
 
 pub record FinalRecord (t : List ℕ) (n : ℕ) (s : State) : Type 0 where
@@ -34,8 +32,5 @@ pub record LabelledBy (May : Item → State → Type 0) (fs : List Filter) (t : 
   pub fits : m ≤ slotsOf t
   pub first : give 0 ≡ start fs
   pub each : (n : ℕ) → n < m → FinalRecord t n (give n) ⊎ AskingRecord May fs t m give n
-  pub sures : (n : ℕ) → n < m → wordOf t n sureAt ≡ sureSet fs (give n)
-  pub outs : (n : ℕ) → n < m → wordOf t n outAt ≡ outSet fs (give n)
-
-abbrev pub Labelled : List Filter → List ℕ → ℕ → Type 0
-Labelled fs t m = LabelledBy Chosen fs t m
+  pub sures : (n : ℕ) → n < m → sureSetAt t n ≡ sureSet fs (give n)
+  pub outs : (n : ℕ) → n < m → outSetAt t n ≡ outSet fs (give n)

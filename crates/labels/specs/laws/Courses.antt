@@ -17,18 +17,18 @@ use Rattle.residue.specs.declared.Reading.the-variants as R
 use Rattle.residue.specs.declared.Outcome.the-variants.{Holds, Fails}
 use Rattle.fields.specs.Widths.{fieldCount}
 use Rattle.lists.specs.Words.{kindOf, itemWords}
-use Rattle.lists.specs.Filters.{Item, Filter, itemOf}
+use Rattle.lists.specs.Filters.{Item, Filter, itemOf, kindAt, fieldAt}
 use Rattle.lists.specs.laws.Items.{kind-some, kind-known, item-round}
-use Rattle.states.specs.States.{State, nothing, questionOf, sureSet, outSet}
+use Rattle.states.specs.States.{State, nothing, questionOf}
 use Rattle.states.specs.Runs.{wayOf}
 use Rattle.states.specs.inner.Choices.{Leads, leads-none, leads-more, Chosen, OfFrame}
 use Rattle.states.specs.laws.Well.{item-field}
 use Rattle.states.specs.laws.Choices.{path-of, path-free}
 use Rattle.states.specs.laws.Well.{wellState, well-left, well-step, well-leads}
 use Rattle.states.specs.laws.Keeps.{by-question, left-asks}
-use Rattle.tables.specs.Tables.{wordOf, nextAt, kindAt, fieldAt, holdsAt, failsAt}
+use Rattle.tables.specs.Tables.{wordOf, nextAt, holdsAt, failsAt}
 use Rattle.tables.specs.inner.Records.{questionAt, wayAt}
-use Rattle.matcher.specs.Walk.{damaged, nextBy, nextOf, walkFrom}
+use Rattle.matcher.specs.Walk.{foundAt, damaged, nextBy, nextOf, walkFrom}
 use Rattle.labels.specs.Labels.{endedBy, shownAt}
 use Rattle.labels.specs.inner.Labelled.{FinalRecord, AskingRecord, LabelledBy}
 use Rattle.labels.specs.laws.Turns.{walk-ends, walk-stops, walk-goes}
@@ -93,13 +93,13 @@ module _ {May : Item → State → Type 0} {fs : List Filter} {t : List ℕ} {m 
 
     -- What is shown at a record where nothing more is allowed.
     pub stopped-shows : (k n : ℕ) → n < m → wellState (x .give n) ≡ true → walkFrom t m r 0 k n ≡ shownAt fs (x .give n) k
-    unfolding shownAt endedBy
+    unfolding shownAt endedBy foundAt
     stopped-shows k n l h =
         ⊎-elim
         (λ (f : FinalRecord t n (x .give n)). walk-ends t m r k n 0 (final-kind t n (f .zeros)) ∙ rw (x .sures n l, x .outs n l, f .none))
         (λ (y : AskingRecord May fs t m (x .give) n).
         let q = y .question in
-        by-question (walkFrom t m r 0 k n ≡ endedBy (questionOf (x .give n)) (sureSet fs (x .give n)) (outSet fs (x .give n)) k) (x .give n)
+        by-question (walkFrom t m r 0 k n ≡ shownAt fs (x .give n) k) (x .give n)
         (λ e. absurd (left-asks q (x .give n) (chosen q (x .give n) (y .may)) e))
         (λ p e.
         walk-stops t m r k n (undamaged t n q (y .words) (field-inside n h y)) (not-final t n q (y .words)) ∙ rw (x .sures n l, x .outs n l, e)))

@@ -30,7 +30,9 @@ use Rattle.states.specs.laws.Truth.{InWidths}
 use Rattle.states.specs.laws.Stays.{leads-sure, leads-out}
 use Rattle.states.specs.laws.Paths.{member-sure, member-out, PathTruth, path-truth}
 use Rattle.tables.specs.Tables.{slotsOf}
-use Rattle.matcher.specs.Walk.{Shown, walkFrom, walk}
+use Rattle.matcher.specs.declared.Found.{Found}
+use Rattle.matcher.specs.declared.Answer.{Answer}
+use Rattle.matcher.specs.Walk.{found, isDone, walkFrom, walk}
 use Rattle.labels.specs.Labels.{endedBy, shownAt, Legal}
 use Rattle.labels.specs.inner.Labelled.{LabelledBy}
 use Rattle.labels.specs.laws.Courses.{Course, walk-course, end-well, walk-shows}
@@ -38,31 +40,29 @@ use Rattle.labels.specs.laws.Courses.{Course, walk-course, end-well, wal
 -- ---- what is shown of a state
 
 module _ (fs : List Filter) (s : State) (k : ℕ) where
-  shown-words : (shownAt fs s k .sure ≡ sureSet fs s) × (shownAt fs s k .out ≡ outSet fs s) × (shownAt fs s k .asked ≡ k)
+  shown-found : found (shownAt fs s k) ≡ record { sure = sureSet fs s; out = outSet fs s; asked = k }
   unfolding shownAt endedBy
-  shown-words = go (questionOf s)
+  shown-found = go (questionOf s) _
     where
-      go : (a : Question) →
-          (endedBy a (sureSet fs s) (outSet fs s) k .sure ≡ sureSet fs s) × (endedBy a (sureSet fs s) (outSet fs s) k .out ≡ outSet fs s) ×
-          (endedBy a (sureSet fs s) (outSet fs s) k .asked ≡ k)
-      go nothing = (refl, refl, refl)
-      go (ask q) = (refl, refl, refl)
+      go : (a : Question) (x : Found) → found (endedBy a x) ≡ x
+      go nothing x = refl
+      go (ask q) x = refl
 
-  pub done-shown : questionOf s ≡ nothing → shownAt fs s k .ended ≡ 1
+  pub done-shown : questionOf s ≡ nothing → isDone (shownAt fs s k) ≡ true
   unfolding shownAt endedBy
   done-shown e = rw e
 
-  pub sure-member : (i : ℕ) → member i (shownAt fs s k .sure) ≡ (ltb i (length fs) && sure fs s i)
-  sure-member i = ap (member i) (shown-words .0) ∙ member-sure fs s i
+  pub sure-member : (i : ℕ) → member i (found (shownAt fs s k) .sure) ≡ (ltb i (length fs) && sure fs s i)
+  sure-member i = rw shown-found (member-sure fs s i)
 
-  pub out-member : (i : ℕ) → member i (shownAt fs s k .out) ≡ (ltb i (length fs) && isOut (standing s i))
-  out-member i = ap (member i) (shown-words .1) ∙ member-out fs s i
+  pub out-member : (i : ℕ) → member i (found (shownAt fs s k) .out) ≡ (ltb i (length fs) && isOut (standing s i))
+  out-member i = rw shown-found (member-out fs s i)
 
-  pub asked-shown : shownAt fs s k .asked ≡ k
-  asked-shown = shown-words .2
+  pub asked-shown : found (shownAt fs s k) .asked ≡ k
+  asked-shown = rw shown-found
 
   -- In neither set is open.
-  pub open-member : (i : ℕ) → i < length fs → (not (member i (shownAt fs s k .sure)) && not (member i (shownAt fs s k .out))) ≡ isOpen fs s i
+  pub open-member : (i : ℕ) → i < length fs → (not (member i (found (shownAt fs s k) .sure)) && not (member i (found (shownAt fs s k) .out))) ≡ isOpen fs s i
   unfolding isOpen
   open-member i inside = rw (sure-member i, out-member i, lt-ltb i (length fs) inside)
 
@@ -72,7 +72,7 @@ module _ (fs : List Filter) {j : ℕ} {s s' : State} (p : Leads fs Free j s s') 
   here = ltb i (length fs)
 
   shown-keeps :
-      (member i (shownAt fs s k .sure) ≡ true → member i (shownAt fs s' k' .sure) ≡ true) × (member i (shownAt fs s k .out) ≡ true → member i (shownAt fs s' k' .out) ≡ true)
+      (member i (found (shownAt fs s k) .sure) ≡ true → member i (found (shownAt fs s' k') .sure) ≡ true) × (member i (found (shownAt fs s k) .out) ≡ true → member i (found (shownAt fs s' k') .out) ≡ true)
   shown-keeps =
       rw (sure-member fs s k i, sure-member fs s' k' i, out-member fs s k i, out-member fs s' k' i)
       (λ e. both here _ (first here _ e) (leads-sure fs p i (second here _ e)), λ e. both here _ (first here _ e) (leads-out fs p i (second here _ e)))
@@ -87,7 +87,7 @@ matches-within fs r i = go (ltb i (length fs)) _ _
 
 -- ---- what the state of a path shows
 
-pub record Shows (May : Item → State → Type 0) (fs : List Filter) (r : ℕ → Reading) (a : ℕ) (w : Shown) : Type 0 where
+pub record Shows (May : Item → State → Type 0) (fs : List Filter) (r : ℕ → Reading) (a : ℕ) (w : Answer) : Type 0 where
   pub state : State
   pub count : ℕ
   pub path : Leads fs (OfFrame r May) count (start fs) state
@@ -96,20 +96,20 @@ pub record Shows (May : Item → State → Type 0) (fs : List Filter) (r : ℕ �
   pub shown : w ≡ shownAt fs state count
 
 -- Where document 01's questions are asked it is the state of document 01's path.
-pub picked-run : {fs : List Filter} {r : ℕ → Reading} {a : ℕ} {w : Shown} → Shows Picked fs r a w → w ≡ shownAt fs (run fs r a (start fs)) (askedIn fs r a (start fs))
+pub picked-run : {fs : List Filter} {r : ℕ → Reading} {a : ℕ} {w : Answer} → Shows Picked fs r a w → w ≡ shownAt fs (run fs r a (start fs)) (askedIn fs r a (start fs))
 picked-run {fs} {r} {a} x =
     let e = picks-run fs r a (x .path) (x .within) (x .ended) in
     x .shown ∙ ap₂ (shownAt fs) (sym (e .0)) (sym (e .1))
 
 module _ {May : Item → State → Type 0} (chosen : (q : Item) (s : State) → May q s → Chosen q s) {fs : List Filter} (well : wellFilters fs ≡ true) {r : ℕ → Reading}
-    (widths : InWidths r) {a : ℕ} {w : Shown} (x : Shows May fs r a w) where
+    (widths : InWidths r) {a : ℕ} {w : Answer} (x : Shows May fs r a w) where
   truth : PathTruth fs r (x .count) (x .state)
   truth = path-truth fs r well widths (path-of fs r chosen (x .path))
 
-  sures : (i : ℕ) → member i (w .sure) ≡ (ltb i (length fs) && sure fs (x .state) i)
+  sures : (i : ℕ) → member i (found w .sure) ≡ (ltb i (length fs) && sure fs (x .state) i)
   sures i = rw (x .shown) (sure-member fs (x .state) (x .count) i)
 
-  outs : (i : ℕ) → member i (w .out) ≡ (ltb i (length fs) && isOut (standing (x .state) i))
+  outs : (i : ℕ) → member i (found w .out) ≡ (ltb i (length fs) && isOut (standing (x .state) i))
   outs i = rw (x .shown) (out-member fs (x .state) (x .count) i)
 
   -- Nothing is left to ask once as much is allowed as the list has tests.
@@ -117,38 +117,38 @@ module _ {May : Item → State → Type 0} (chosen : (q : Item) (s : State) → 
   final enough = ⊎-elim (λ (e : x .count ≡ a). truth .ended (omega arith)) (λ e. e) (x .ended)
 
   -- Then the walk is done, the sure filters are the match set, and each filter of the list is sure or out.
-  pub shows-done : testsIn fs ≤ a → w .ended ≡ 1
+  pub shows-done : testsIn fs ≤ a → isDone w ≡ true
   shows-done enough = rw (x .shown) (done-shown fs (x .state) (x .count) (final enough))
 
-  pub shows-matches : testsIn fs ≤ a → (i : ℕ) → member i (w .sure) ≡ matches fs r i
+  pub shows-matches : testsIn fs ≤ a → (i : ℕ) → member i (found w .sure) ≡ matches fs r i
   shows-matches enough i = sures i ∙ ap (λ (b : Bool). ltb i (length fs) && b) (truth .settled (final enough) i) ∙ matches-within fs r i
 
-  pub shows-set : testsIn fs ≤ a → w .sure ≡ matchSet fs r
+  pub shows-set : testsIn fs ≤ a → found w .sure ≡ matchSet fs r
   unfolding matchSet sureSet
   shows-set enough =
       rw (x .shown)
-      (shown-words fs (x .state) (x .count) .0 ∙
+      (ap (λ (y : Found). y .sure) (shown-found fs (x .state) (x .count)) ∙
       ap setOf (tally-ext (length fs) (λ i. sure fs (x .state) i) (λ i. matches fs r i) (λ i _. truth .settled (final enough) i)))
 
-  pub shows-settled : testsIn fs ≤ a → (i : ℕ) → i < length fs → (member i (w .sure) ≡ true) ⊎ (member i (w .out) ≡ true)
+  pub shows-settled : testsIn fs ≤ a → (i : ℕ) → i < length fs → (member i (found w .sure) ≡ true) ⊎ (member i (found w .out) ≡ true)
   shows-settled enough i inside =
-      go (member i (w .sure)) (member i (w .out)) refl refl (rw (x .shown) (open-member fs (x .state) (x .count) i inside ∙ truth .none-open (final enough) i))
+      go (member i (found w .sure)) (member i (found w .out)) refl refl (rw (x .shown) (open-member fs (x .state) (x .count) i inside ∙ truth .none-open (final enough) i))
     where
-      go : (b c : Bool) → member i (w .sure) ≡ b → member i (w .out) ≡ c → (not b && not c) ≡ false → (member i (w .sure) ≡ true) ⊎ (member i (w .out) ≡ true)
+      go : (b c : Bool) → member i (found w .sure) ≡ b → member i (found w .out) ≡ c → (not b && not c) ≡ false → (member i (found w .sure) ≡ true) ⊎ (member i (found w .out) ≡ true)
       go true c e z n = inl e
       go false true e z n = inr z
       go false false e z n = absurd (false≢true (sym n))
 
   -- Whatever is allowed, a sure filter is in the match set and an out one is not, and no more is asked than allowed, nor than the list has tests.
-  pub shows-sure : (i : ℕ) → member i (w .sure) ≡ true → matches fs r i ≡ true
+  pub shows-sure : (i : ℕ) → member i (found w .sure) ≡ true → matches fs r i ≡ true
   shows-sure i e = truth .sure-true i (second (ltb i (length fs)) _ (sym (sures i) ∙ e))
 
-  pub shows-out : (i : ℕ) → member i (w .out) ≡ true → matches fs r i ≡ false
+  pub shows-out : (i : ℕ) → member i (found w .out) ≡ true → matches fs r i ≡ false
   shows-out i e = truth .out-true i (second (ltb i (length fs)) _ (sym (outs i) ∙ e))
 
-  pub shows-asked : (w .asked ≤ a) × (w .asked ≤ testsIn fs)
+  pub shows-asked : (found w .asked ≤ a) × (found w .asked ≤ testsIn fs)
   shows-asked =
-      let count : w .asked ≡ x .count = rw (x .shown) (asked-shown fs (x .state) (x .count)) in
+      let count : found w .asked ≡ x .count = rw (x .shown) (asked-shown fs (x .state) (x .count)) in
       let within = x .within in
       (omega arith, omega (arith, truth .few))
 
@@ -202,13 +202,13 @@ module _ {May : Item → State → Type 0} (chosen : (q : Item) (s : State) → 
     after-led = path-free fs r (path-of fs r chosen (after .path))
 
     after-keeps :
-        (i : ℕ) → (member i (walk f p t m a .sure) ≡ true → member i (walk f p t m (a + d) .sure) ≡ true) ×
-        (member i (walk f p t m a .out) ≡ true → member i (walk f p t m (a + d) .out) ≡ true)
+        (i : ℕ) → (member i (found (walk f p t m a) .sure) ≡ true → member i (found (walk f p t m (a + d)) .sure) ≡ true) ×
+        (member i (found (walk f p t m a) .out) ≡ true → member i (found (walk f p t m (a + d)) .out) ≡ true)
     after-keeps i = rw (labelled-shows a .shown, after-shows) (shown-keeps fs after-led (labelled-shows a .count) (0 + walks a .count + after .count) i)
 
   pub labelled-keeps :
       (a a' i : ℕ) → a ≤ a' →
-      (member i (walk f p t m a .sure) ≡ true → member i (walk f p t m a' .sure) ≡ true) × (member i (walk f p t m a .out) ≡ true → member i (walk f p t m a' .out) ≡ true)
+      (member i (found (walk f p t m a) .sure) ≡ true → member i (found (walk f p t m a') .sure) ≡ true) × (member i (found (walk f p t m a) .out) ≡ true → member i (found (walk f p t m a') .out) ≡ true)
   labelled-keeps a a' i more =
       let e : a + (a' - a) ≡ a' = omega arith in
       rw (← e) (after-keeps a (a' - a) i)

@@ -5,16 +5,18 @@ use mathlib.Core.Bool.{true, false}
 use mathlib.Core.List.{List}
 use lib.Dec.{ltb, eqb}
 use Rattle.residue.specs.declared.Reading.{Reading}
-use Rattle.tables.specs.Tables.{wordOf, kindAt, sureAt, outAt}
-use Rattle.matcher.specs.Walk.{done, stopped, damaged, nextOf, arrive, onward, walkFrom}
+use Rattle.lists.specs.Filters.{kindAt}
+use Rattle.tables.specs.Tables.{wordOf}
+use Rattle.matcher.specs.declared.Answer.the-variants.{Done, Stopped}
+use Rattle.matcher.specs.Walk.{foundAt, damaged, nextOf, arrive, onward, walkFrom}
 
 module _ (t : List ℕ) (m : ℕ) (r : ℕ → Reading) (k n : ℕ) where
-  pub walk-ends : (a : ℕ) → wordOf t n kindAt ≡ 0 → walkFrom t m r a k n ≡ done (wordOf t n sureAt) (wordOf t n outAt) k
+  pub walk-ends : (a : ℕ) → wordOf t n kindAt ≡ 0 → walkFrom t m r a k n ≡ Done (foundAt t n k)
   unfolding walkFrom damaged arrive
   walk-ends zero e = rw e
   walk-ends (suc a) e = rw e
 
-  pub walk-stops : damaged t n ≡ false → eqb (wordOf t n kindAt) 0 ≡ false → walkFrom t m r 0 k n ≡ stopped (wordOf t n sureAt) (wordOf t n outAt) k
+  pub walk-stops : damaged t n ≡ false → eqb (wordOf t n kindAt) 0 ≡ false → walkFrom t m r 0 k n ≡ Stopped (foundAt t n k)
   unfolding walkFrom arrive
   walk-stops d e = rw (d, e)
 

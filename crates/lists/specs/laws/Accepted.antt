@@ -9,12 +9,12 @@ use mathlib.Core.Bool.{Bool, true, false, not, _&&_}
 use mathlib.Core.List.{List, [], _∷_}
 use lib.Bits.{bitAnd}
 use lib.Dec.{leb, eqb}
-use lib.ListN.{length, drop}
+use lib.ListN.{length, getD, drop}
 use borrow.Author.Tests.{leb-true, not-false, lt-ltb, le-leb}
 use Rattle.residue.specs.laws.Choice.{first, second}
 use Rattle.residue.specs.inner.Well.{wellMasked, wellFormed}
 use Rattle.fields.specs.Widths.{fieldCount, full}
-use Rattle.lists.specs.Filters.{maxFilters, maxTests, headWords, testWords, kindEqual, kindDiffers, kindAtMost, kindAtLeast, countWord, kindWord, fieldWord, maskWord, valueWord, filterWords, Filter, testOf, itemOf, itemsOf, filterOf, filtersFrom, filtersOf, testsIn}
+use Rattle.lists.specs.Filters.{maxFilters, maxTests, headWords, testWords, kindEqual, kindDiffers, kindAtMost, kindAtLeast, countWord, kindAt, fieldAt, maskAt, valueAt, filterWords, Filter, testOf, itemOf, itemsOf, filterOf, filtersFrom, filtersOf, testsIn}
 use Rattle.lists.specs.Refusals.{wordsFault, testsFault, listedFrom, listed}
 use Rattle.lists.specs.declared.Listed.the-variants.{Accepted}
 use Rattle.lists.specs.inner.Well.{wellItem, wellItems, wellFilter, wellFilters}
@@ -43,8 +43,8 @@ sound-well k f m v s =
 sound-item : (ws : List ℕ) → wordsFault ws ≡ 0 → wellItem (itemOf ws) ≡ true
 unfolding wordsFault wellItem itemOf
 sound-item ws e =
-    let s = sound-test (kindWord ws) (fieldWord ws) (maskWord ws) (valueWord ws) e in
-    ap₂ (λ (a b : Bool). a && b) (lt-ltb (fieldWord ws) fieldCount (s .field)) (sound-well (kindWord ws) (fieldWord ws) (maskWord ws) (valueWord ws) s)
+    let s = sound-test (getD ws kindAt 0) (getD ws fieldAt 0) (getD ws maskAt 0) (getD ws valueAt 0) e in
+    ap₂ (λ (a b : Bool). a && b) (lt-ltb (getD ws fieldAt 0) fieldCount (s .field)) (sound-well (getD ws kindAt 0) (getD ws fieldAt 0) (getD ws maskAt 0) (getD ws valueAt 0) s)
 
 sound-items : (n : ℕ) (ws : List ℕ) → testsFault n ws ≡ 0 → wellItems (itemsOf n ws) ≡ true
 unfolding testsFault wellItems itemsOf

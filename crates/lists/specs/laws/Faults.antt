@@ -9,11 +9,11 @@ use mathlib.Core.Bool.{Bool, true, false, cond, not, _&&_, _||_, true≢false}
 use mathlib.Core.List.{List, [], _∷_}
 use lib.Dec.{leb, ltb, eqb, lit<}
 use lib.Bits.{bitAnd}
-use lib.ListN.{length, drop}
+use lib.ListN.{length, getD, drop}
 use borrow.Author.Tests.{ltb-false, leb-false, eqb-true, eqb-false}
 use Rattle.residue.specs.laws.Choice.{by-cond, neither}
 use Rattle.fields.specs.Widths.{fieldCount, full}
-use Rattle.lists.specs.Filters.{maxFilters, maxTests, maxRank, headWords, testWords, kindAtLeast, groupWord, levelWord, countWord, kindWord, fieldWord, maskWord, valueWord, filterWords}
+use Rattle.lists.specs.Filters.{maxFilters, maxTests, maxRank, headWords, testWords, kindAtLeast, groupWord, levelWord, countWord, kindAt, fieldAt, maskAt, valueAt, filterWords}
 use Rattle.lists.specs.Refusals.{masked, testFault, wordsFault, testsFault, filterFault, listedFrom, listed}
 use Rattle.lists.specs.declared.Listed.{Listed}
 use Rattle.lists.specs.declared.Listed.the-variants as L
@@ -112,7 +112,7 @@ tests-few : (n : ℕ) (ws : List ℕ) → testsFault n ws ≤ 9
 unfolding testsFault wordsFault
 tests-few zero ws = omega arith
 tests-few (suc n) ws =
-    few-cond (eqb (wordsFault ws) 0) (testsFault n (drop testWords ws)) (tests-few n (drop testWords ws)) (test-few (kindWord ws) (fieldWord ws) (maskWord ws) (valueWord ws))
+    few-cond (eqb (wordsFault ws) 0) (testsFault n (drop testWords ws)) (tests-few n (drop testWords ws)) (test-few (getD ws kindAt 0) (getD ws fieldAt 0) (getD ws maskAt 0) (getD ws valueAt 0))
 
 filter-few : (ws : List ℕ) → filterFault ws ≤ 9
 unfolding filterFault

@@ -9,8 +9,8 @@ use lib.Dec.{eqb}
 use lib.Bits.{bitAnd}
 use Rattle.residue.specs.declared.Reading.{Reading}
 use Rattle.residue.specs.declared.Reading.the-variants.{Value}
-use Rattle.lists.specs.Filters.{kindEqual}
-use Rattle.tables.specs.Tables.{kindAt, fieldAt, maskAt, valueAt, failsAt}
+use Rattle.lists.specs.Filters.{kindEqual, kindAt, fieldAt, maskAt, valueAt}
+use Rattle.tables.specs.Tables.{failsAt}
 use Rattle.matcher.specs.Walk.{walkFrom}
 use Rattle.matcher.specs.inner.Records.{wordIn}
 

@@ -1,15 +1,19 @@
 -- What the nine words of one record say, apart from the table.
 --   endsAt w l   the walk goes no further at such a record, with l questions left: it is final, damaged, or the allowance is used
---   endAt w k    what the walk then shows, with k questions asked
+--   foundIn w k  what such a record shows, with k questions asked
+--   endAt w k    what the walk then answers
 use Prim.Native.Nat.{ℕ, _-_}
 use mathlib.Core.Bool.{Bool, not, _&&_, _||_}
 use mathlib.Core.List.{List}
 use lib.Dec.{leb, ltb, eqb}
 use lib.ListN.{getD}
 use Rattle.fields.specs.Widths.{fieldCount}
-use Rattle.lists.specs.Filters.{kindAtLeast}
-use Rattle.tables.specs.Tables.{kindAt, fieldAt, sureAt, outAt}
-use Rattle.matcher.specs.Walk.{Shown, done, stopped, arrive}
+use Rattle.lists.specs.Filters.{kindAtLeast, kindAt, fieldAt}
+use Rattle.tables.specs.Tables.{sureAt, outAt, setAt}
+use Rattle.matcher.specs.declared.Found.{Found}
+use Rattle.matcher.specs.declared.Answer.{Answer}
+use Rattle.matcher.specs.declared.Answer.the-variants.{Done, Stopped}
+use Rattle.matcher.specs.Walk.{arrive}
 
 abbrev pub lastField : ℕ
 lastField = fieldCount - 1
@@ -20,9 +24,12 @@ wordIn w j = getD w j 0
 unfoldable pub endsAt : List ℕ → ℕ → Bool
 endsAt w l = eqb (wordIn w kindAt) 0 || ltb kindAtLeast (wordIn w kindAt) || ltb lastField (wordIn w fieldAt) || eqb l 0
 
-unfoldable pub endAt : List ℕ → ℕ → Shown
+unfoldable pub foundIn : List ℕ → ℕ → Found
+foundIn w k = record { sure = setAt (wordIn w) sureAt; out = setAt (wordIn w) outAt; asked = k }
+
+unfoldable pub endAt : List ℕ → ℕ → Answer
 endAt w k =
     arrive (ltb kindAtLeast (wordIn w kindAt) || (not (eqb (wordIn w kindAt) 0) && leb fieldCount (wordIn w fieldAt)))
     (eqb (wordIn w kindAt) 0)
-    (done (wordIn w sureAt) (wordIn w outAt) k)
-    (stopped (wordIn w sureAt) (wordIn w outAt) k)
+    (Done (foundIn w k))
+    (Stopped (foundIn w k))

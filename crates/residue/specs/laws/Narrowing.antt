@@ -9,7 +9,7 @@ use borrow.Author.Tests.{eqb-true, eqb-false, le-leb, ne-eqb, eq-eqb, not-true}
 use Rattle.residue.specs.Tests.{holds}
 use Rattle.residue.specs.inner.Well.{wellMasked, wellFormed, wellLeft}
 use Rattle.residue.specs.Residues.{outside, settled, reducedEqual, reducedDiffers, fromMasked, fromEqual, covers, fromDiffers, fromAtMost, fromAtLeast, residueBy}
-use Rattle.residue.specs.Relations.{equalOf, differsOf, atMostOf, atLeastOf, sameTest}
+use Rattle.residue.specs.inner.Relations.{equalOf, differsOf, atMostOf, atLeastOf, sameTest}
 use Rattle.residue.specs.inner.Relations.{everyLeft, fewer, narrows}
 use Rattle.residue.specs.laws.Choice.{by-cond, both, first, second}
 use Rattle.residue.specs.laws.Bits.{and-twice, and-outside, outside-in}

@@ -10,7 +10,7 @@ use Rattle.residue.specs.Tests.{holds}
 use Rattle.residue.specs.inner.Well.{wellFormed}
 use Rattle.residue.specs.Facts.{failsFact, factOf}
 use Rattle.residue.specs.Residues.{outside, reducedEqual, reducedDiffers, fromMasked, fromEqual, covers, fromDiffers, fromAtMost, fromAtLeast, residueBy}
-use Rattle.residue.specs.Relations.{atMostOf, atLeastOf, sameTest}
+use Rattle.residue.specs.inner.Relations.{atMostOf, atLeastOf, sameTest}
 use Rattle.residue.specs.inner.Relations.{everyLeft, maskedOf, fewer, narrows, repeats, spent}
 use Rattle.residue.specs.laws.Choice.{by-cond, never, both, first, second}
 use Rattle.residue.specs.laws.Bits.{and-assoc, reduced-outside}

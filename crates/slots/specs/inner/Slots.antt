@@ -21,7 +21,7 @@ use Rattle.residue.specs.declared.Fact.{Fact}
 use Rattle.residue.specs.declared.Outcome.{Outcome}
 use Rattle.fields.specs.Widths.{full}
 use Rattle.sets.specs.Sets.{setOf, tally}
-use Rattle.lists.specs.Filters.{Item, kindWord, fieldWord, maskWord, valueWord, itemOf, filtersOf}
+use Rattle.lists.specs.Filters.{Item, kindAt, fieldAt, maskAt, valueAt, itemOf, filtersOf}
 use Rattle.states.specs.States.{cutStanding, allLeft}
 use Rattle.slots.specs.Words.{filterSlot}
 use Rattle.slots.specs.inner.Words.{outMark, outWords, writtenFilter, written, readFilter}
@@ -52,7 +52,7 @@ unfoldable pub hasTest : List ℕ → Bool
 hasTest w = not (eqb (getD w 0 0) 0) && not (eqb (getD w 0 0) outMark)
 
 unfoldable pub fourWords : List ℕ → List ℕ
-fourWords w = kindWord w ∷ fieldWord w ∷ maskWord w ∷ valueWord w ∷ []
+fourWords w = getD w kindAt 0 ∷ getD w fieldAt 0 ∷ getD w maskAt 0 ∷ getD w valueAt 0 ∷ []
 
 unfoldable pub questionIn : ℕ → List ℕ → List ℕ
 questionIn zero w = 0 ∷ 0 ∷ 0 ∷ 0 ∷ []

@@ -78,7 +78,7 @@ unfoldable pub markedSet : ℕ → ℕ → List ℕ → ℕ
 markedSet n m w = setOf (tally n (λ i. eqb (headOf w i) m))
 
 -- The words of n filters.
-pub record State (n : ℕ) (w : List ℕ) : Type 0 where
+pub record StateWords (n : ℕ) (w : List ℕ) : Type 0 where
   pub few : n ≤ maxFilters
   pub whole : length w ≡ filterSlot * n
 

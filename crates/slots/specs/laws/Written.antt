@@ -84,9 +84,9 @@ module _ (fs : List Filter) (s : State) (l : length s ≡ length fs) (few : leng
   out-written = ap setOf (tally-ext (length fs) _ (λ i. isOut (standing s i)) out-at)
 
   -- No filter that ranks above i is open or held.
-  none-left : (i : ℕ) → i < length fs → eqb (outside (getD (rankSets fs) i 0) (outSetIn (length fs) (written s))) 0 ≡ not (some (length fs) (λ j. above fs j i && not (isOut (standing s j))))
+  none-above : (i : ℕ) → i < length fs → eqb (outside (getD (rankSets fs) i 0) (outSetIn (length fs) (written s))) 0 ≡ not (some (length fs) (λ j. above fs j i && not (isOut (standing s j))))
   unfolding outSet
-  none-left i h =
+  none-above i h =
       let p : ℕ → Bool = λ j. above fs j i in
       let q : ℕ → Bool = λ j. isOut (standing s j) in
       ap₂ (λ (a b : ℕ). eqb (outside a b) 0) (getD-rankSets fs i (omega arith) ∙ rankSet-in fs i h) out-written ∙
@@ -96,7 +96,7 @@ module _ (fs : List Filter) (s : State) (l : length s ≡ length fs) (few : leng
   pub sure-written : sureSetIn (length fs) (rankSets fs) (written s) ≡ sureSet fs s
   unfolding sureSetIn sureSet sure
   sure-written =
-      ap setOf (tally-ext (length fs) _ (λ i. sure fs s i) (λ i h. ap₂ (λ (a b : Bool). a && b) (held-at i h) (none-left i h)))
+      ap setOf (tally-ext (length fs) _ (λ i. sure fs s i) (λ i h. ap₂ (λ (a b : Bool). a && b) (held-at i h) (none-above i h)))
 
   -- ---- closing
 

@@ -1,16 +1,14 @@
 -- States are the same where and only where they are equal.
 -- Assumes nothing.
-use mathlib.Core.Path.{_≡_, refl, ap, ap₂}
+use mathlib.Core.Path.{_≡_, refl, sym, ap, ap₂, _∙_}
 use mathlib.Core.Bool.{Bool, true, false≢true}
 use mathlib.Core.List.{List, [], _∷_}
-use Prim.Native.Nat.{ℕ}
 use lib.Dec.{eqb}
 use borrow.Author.Tests.{eqb-true, eq-eqb}
 use Rattle.residue.specs.laws.Choice.{both, first, second}
-use Rattle.residue.specs.Relations.{sameTest}
-use Rattle.residue.specs.laws.Narrowing.{same-test-eq, same-test-refl}
-use Rattle.residue.specs.declared.Test.{Test}
-use Rattle.lists.specs.Filters.{Item}
+use Rattle.lists.specs.Filters.{Item, itemOf}
+use Rattle.lists.specs.Words.{itemWords}
+use Rattle.lists.specs.laws.Items.{item-round}
 use Rattle.states.specs.States.{Standing, out, left, State}
 use Rattle.states.specs.Same.{sameList, sameItem, sameStanding, sameState}
 
@@ -30,14 +28,11 @@ module _ {A : Type 0} (e : A → A → Bool) where
 
 pub same-item-eq : (a b : Item) → sameItem a b ≡ true → a ≡ b
 unfolding sameItem
-same-item-eq a b h =
-    ap₂ (λ (n : ℕ) (u : Test). record { field = n; test = u })
-    (eqb-true (a .field) (b .field) (first (eqb (a .field) (b .field)) (sameTest (a .test) (b .test)) h))
-    (same-test-eq (a .test) (b .test) (second (eqb (a .field) (b .field)) (sameTest (a .test) (b .test)) h))
+same-item-eq a b h = sym (item-round a) ∙ ap itemOf (same-list-eq eqb eqb-true (itemWords a) (itemWords b) h) ∙ item-round b
 
 pub same-item-refl : (a : Item) → sameItem a a ≡ true
 unfolding sameItem
-same-item-refl a = both (eqb (a .field) (a .field)) (sameTest (a .test) (a .test)) (eq-eqb (a .field) (a .field) refl) (same-test-refl (a .test))
+same-item-refl a = same-list-refl eqb (λ x. eq-eqb x x refl) (itemWords a)
 
 pub same-standing-eq : (x y : Standing) → sameStanding x y ≡ true → x ≡ y
 unfolding sameStanding

@@ -1,21 +1,19 @@
 -- The parts of a record in a table, and what changes them.
 --   askWords                    words a question
---   setAt word j, putSet j s ws   the set that the words from place j on say; the words ws with the set s there
+--   putSet j s ws               the words ws with the set s in the words from place j on
 --   freshRecord q s o           a record with no next numbers yet
 --   recordAt t n                all words of record n
---   questionAt t n, wayAt t n o, sureSetAt t n, outSetAt t n   the words of its question, its next numbers, its sets
+--   questionAt t n, wayAt t n o   the words of its question, its next numbers
 --   withNext n o v t            the table t with v as the next number of record n at o
 use Prim.Native.Nat.{ℕ, _+_, _*_}
 use mathlib.Core.List.{List, [], _∷_}
 use lib.ListN.{take, drop, set}
 use Rattle.residue.specs.declared.Outcome.{Outcome}
-use Rattle.tables.specs.Tables.{kindAt, fieldAt, maskAt, valueAt, sureAt, outAt, recordWords, nextAt, recordWith, wordOf}
+use Rattle.lists.specs.Filters.{testWords, kindAt, fieldAt, maskAt, valueAt}
+use Rattle.tables.specs.Tables.{recordWords, nextAt, recordWith, wordOf}
 
 abbrev pub askWords : ℕ
-askWords = 4
-
-unfoldable pub setAt : (ℕ → ℕ) → ℕ → ℕ
-setAt word j = word j
+askWords = testWords
 
 unfoldable pub putSet : ℕ → ℕ → List ℕ → List ℕ
 putSet j s ws = set ws j s
@@ -31,12 +29,6 @@ questionAt t n = wordOf t n kindAt ∷ wordOf t n fieldAt ∷ wordOf t n maskAt 
 
 unfoldable pub wayAt : List ℕ → ℕ → Outcome → ℕ
 wayAt t n o = wordOf t n (nextAt o)
-
-unfoldable pub sureSetAt : List ℕ → ℕ → ℕ
-sureSetAt t n = setAt (wordOf t n) sureAt
-
-unfoldable pub outSetAt : List ℕ → ℕ → ℕ
-outSetAt t n = setAt (wordOf t n) outAt
 
 unfoldable pub withNext : ℕ → Outcome → ℕ → List ℕ → List ℕ
 withNext n o v t = set t (recordWords * n + nextAt o) v

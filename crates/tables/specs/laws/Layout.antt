@@ -13,8 +13,9 @@ use lib.ListN.{length, getD, drop, set}
 use lib.Seq.{getD-take, getD-drop}
 use Rattle.residue.specs.declared.Outcome.{Outcome}
 use Rattle.residue.specs.declared.Outcome.the-variants.{Holds, Fails, Absent}
-use Rattle.tables.specs.Tables.{recordWords, kindAt, fieldAt, maskAt, valueAt, sureAt, outAt, nextAt, asWords, recordWith, wordOf}
-use Rattle.tables.specs.inner.Records.{askWords, setAt, freshRecord, recordAt, questionAt, wayAt, sureSetAt, outSetAt}
+use Rattle.lists.specs.Filters.{kindAt, fieldAt, maskAt, valueAt}
+use Rattle.tables.specs.Tables.{recordWords, sureAt, outAt, nextAt, asWords, recordWith, wordOf, setAt, sureSetAt, outSetAt}
+use Rattle.tables.specs.inner.Records.{askWords, freshRecord, recordAt, questionAt, wayAt}
 
 pub record Spells (t : List ℕ) (n : ℕ) (q : List ℕ) (next : Outcome → ℕ) (s o : ℕ) : Type 0 where
   pub question : questionAt t n ≡ q

@@ -6,7 +6,7 @@ use mathlib.Core.Path.{sym, _∙_}
 use native.Mathlib.Omega.{arith}
 use lib.ListN.{length}
 use Rattle.text.specs.inner.Items.{maxItems}
-use Rattle.text.proofs.Turns.{Reading, begun, skipped, spelt, word-room, stored, refused, ended-apart, last-room, ended-inside}
+use Rattle.text.proofs.Turns.{Reading, begun, skipped, spelt, word-room, stored, wrong-read, ended-apart, last-room, ended-inside}
 use borrow.Author.Needs.{needs}
 use Rattle.text.proofs.read_items.Statement.{statement}
 use Rattle.text.proofs.read_items.Tie as tie
@@ -93,7 +93,7 @@ same-length c = search needs
 returns : tie.Need-returns Inv-loop μ-loop
 returns c =
     let s = c .before .before in
-    refused _ _ _ _ _ _ (s .before .before .before .loop .inv) (s .before .before .loop-test .taken)
+    wrong-read _ _ _ _ _ _ (s .before .before .before .loop .inv) (s .before .before .loop-test .taken)
     (sym (s .step-by .ensures) ∙ c .enum-told2 .given .1)
 
 enum-told-3 : tie.Need-enum-told-3 Inv-loop μ-loop

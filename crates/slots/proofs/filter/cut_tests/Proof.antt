@@ -53,14 +53,14 @@ field-at-requires c κs = search needs
 left-of-requires : tie.Need-left-of-requires Inv-loop μ-loop
 left-of-requires c κs = search needs
 
-keep-requires : tie.Need-keep-requires Inv-loop μ-loop
-keep-requires c κs = search needs
+put-rest-requires : tie.Need-put-rest-requires Inv-loop μ-loop
+put-rest-requires c κs = search needs
 
 same-length-2 : tie.Need-same-length-2 Inv-loop μ-loop
 same-length-2 c =
     let k = c .before .before .before in
     let l = k .before .before .before .before .before .before .before in
-    k .keep .kept .0 ∙ l .loop .inv .0 ∙ sym (l .before .before .before .pre .target)
+    k .put-rest .kept .0 ∙ l .loop .inv .0 ∙ sym (l .before .before .before .pre .target)
 
 returns-2 : tie.Need-returns-2 Inv-loop μ-loop
 returns-2 c =
@@ -69,7 +69,7 @@ returns-2 c =
     let b = o .before .before .before in
     let l = b .before .before .before .loop in
     let a = b .before .before .before .before .before .before .args in
-    record { words = turn-out (a .field) (a .fact) (a .src .now) (l .dst) (k .keep .last .0) (l .test) (l .end) (k .keep .result) (o .before .field-at .result) (o .left-of .result) (Whole (a .field) (a .fact) (a .src .now)) (b .before .before .loop-test .taken) (b .if1 .left) (l .inv .0) (l .inv .2) (o .before .field-at .ensures) (o .left-of .ensures) (k .keep .ensures) (l .inv .3) (c .if2 .taken) }
+    record { words = turn-out (a .field) (a .fact) (a .src .now) (l .dst) (k .put-rest .last .0) (l .test) (l .end) (k .put-rest .result) (o .before .field-at .result) (o .left-of .result) (Whole (a .field) (a .fact) (a .src .now)) (b .before .before .loop-test .taken) (b .if1 .left) (l .inv .0) (l .inv .2) (o .before .field-at .ensures) (o .left-of .ensures) (k .put-rest .ensures) (l .inv .3) (c .if2 .taken) }
 
 add-test : tie.Need-add-test Inv-loop μ-loop
 add-test c = search needs
@@ -84,8 +84,8 @@ loop-again c =
     let b = o .before .before .before in
     let l = b .before .before .before .loop in
     let a = b .before .before .before .before .before .before .args in
-    turn-again (a .field) (a .fact) (a .src .now) (l .dst) (k .keep .last .0) (l .test) (l .end) (k .keep .result) (o .before .field-at .result) (o .left-of .result) (Whole (a .field) (a .fact) (a .src .now))
-    (b .before .before .loop-test .taken) (b .if1 .left) (l .inv .0) (l .inv .2) (o .before .field-at .ensures) (o .left-of .ensures) (k .keep .ensures) (l .inv .3) (c .if2 .left)
+    turn-again (a .field) (a .fact) (a .src .now) (l .dst) (k .put-rest .last .0) (l .test) (l .end) (k .put-rest .result) (o .before .field-at .result) (o .left-of .result) (Whole (a .field) (a .fact) (a .src .now))
+    (b .before .before .loop-test .taken) (b .if1 .left) (l .inv .0) (l .inv .2) (o .before .field-at .ensures) (o .left-of .ensures) (k .put-rest .ensures) (l .inv .3) (c .if2 .left)
 
 same-length-3 : tie.Need-same-length-3 Inv-loop μ-loop
 same-length-3 c = let l = c .before in l .loop .inv .0 ∙ sym (l .before .before .before .pre .target)
@@ -111,7 +111,7 @@ cut-tests-spec =
     returns
     field-at-requires
     left-of-requires
-    keep-requires
+    put-rest-requires
     same-length-2
     returns-2
     add-test

@@ -1,9 +1,9 @@
--- `slots::filter::keep` meets its contract. Each arm is a clause of the definitions.
+-- `slots::filter::put_rest` meets its contract. Each arm is a clause of the definitions.
 -- Assumes nothing.
 use Rattle.slots.specs.inner.Steps.{keptWords, keptAt}
 use borrow.Author.Needs.{needs}
-use Rattle.slots.proofs.filter.keep.Statement.{statement}
-use Rattle.slots.proofs.filter.keep.Tie as tie
+use Rattle.slots.proofs.filter.put_rest.Statement.{statement}
+use Rattle.slots.proofs.filter.put_rest.Tie as tie
 
 enum-told : tie.Need-enum-told
 enum-told c = search needs
@@ -41,8 +41,8 @@ returns-3 : tie.Need-returns-3
 unfolding keptWords keptAt
 returns-3 c = let e = c .before .before .before .before .before .rest .given .1 in record { words = rw e (c .before .before .put-test .ensures); behind = rw e }
 
-pub keep-spec : {M : Type 1} → statement M
-keep-spec =
+pub put-rest-spec : {M : Type 1} → statement M
+put-rest-spec =
     tie.close
     (tie.spec
     enum-told

@@ -1,0 +1,42 @@
+-- The public calls' answers as the fields of C structs.
+--   endedWith e r x  how a walk ended (0 refused, 1 done, 2 stopped), the refusal's number, and what was found
+--   classified a     these numbers for each case of the enum Answer
+--   matched a        the refusal's number or 0, the filter's number, the match set, for each case of the enum Scanned
+--   builtWith b      the refusal's number or 0, the number of states or the filter's number, for each case of the enum Built
+--   Compiled         an answer and the words afterwards are those of an outcome of building
+use mathlib.Core.Path.{_≡_}
+use Prim.Native.Nat.{ℕ}
+use mathlib.Core.List.{List}
+use Rattle.matcher.specs.declared.Found.{Found}
+use Rattle.matcher.specs.declared.Answer.{Answer}
+use Rattle.matcher.specs.declared.Answer.the-variants as A
+use Rattle.matcher.specs.Walk.{found}
+use Rattle.scanner.specs.declared.Scanned.{Scanned}
+use Rattle.scanner.specs.declared.Scanned.the-variants as S
+use Rattle.builder.specs.declared.Built.{Built}
+use Rattle.builder.specs.Outcome as B
+use Rattle.filterbox.specs.declared.FilterboxAnswer.{FilterboxAnswer}
+use Rattle.filterbox.specs.declared.FilterboxBuilt.{FilterboxBuilt}
+use Rattle.filterbox.specs.declared.FilterboxScanned.{FilterboxScanned}
+
+abbrev pub endedWith : ℕ → ℕ → Found → FilterboxAnswer
+endedWith e r x = record { ended = e; refusal = r; sure = x .sure; out = x .out; asked = x .asked }
+
+-- A refusal has zeros for what was found.
+unfoldable pub classified : Answer → FilterboxAnswer
+classified (A.Done x) = endedWith 1 0 x
+classified (A.Stopped x) = endedWith 2 0 x
+classified (A.Refused n) = endedWith 0 n (found (A.Refused n))
+
+-- A refusal has an empty set.
+unfoldable pub matched : Scanned → FilterboxScanned
+matched (S.Matched s) = record { refusal = 0; filter = 0; set = s }
+matched (S.Refused r i) = record { refusal = r; filter = i; set = 0 }
+
+abbrev pub builtWith : Built → FilterboxBuilt
+builtWith b = record { refusal = B.refusalOf b; number = B.numberOf b }
+
+pub record Compiled (l : B.Left) (b : FilterboxBuilt) (t s : List ℕ) : Type 0 where
+  pub answer : b ≡ builtWith (l .answer)
+  pub table : t ≡ l .table
+  pub scratch : s ≡ l .scratch
