@@ -1,4 +1,4 @@
-// Stack that filterbox_build takes at the deepest list: one thread on painted memory, lists whose holds ways are 1 to 256 questions long.
+// Stack that filterbox_build takes at the deepest list, and filterbox_lamp over its table: one thread on painted memory, lists whose holds ways are 1 to 256 questions long.
 #include <pthread.h>
 #include <stdint.h>
 #include <stdio.h>
@@ -13,6 +13,7 @@ static _Alignas(65536) unsigned char stack[STACK];
 static uint32_t list[FILTERBOX_MOST_FILTERS * (3 + 4 * FILTERBOX_MOST_TESTS)], table[TABLE], scratch[MOST_SCRATCH_WORDS * SLOTS];
 static size_t words, scratch_words;
 static FilterboxBuilt out;
+static FilterboxLamp lamp;
 static unsigned char *entry;
 
 // k tests, 8 a filter: each "source address differs from i", each filter in its own group.
@@ -39,13 +40,22 @@ static void *run(void *x) {
     return x;
 }
 
-static size_t measure(unsigned k) {
+// A TCP packet from no address of the lists, so that every test holds.
+static const uint8_t frame[54] = {[12] = 8, [14] = 0x45, [17] = 40, [22] = 64, [23] = 6, [26] = 10};
+
+static void *ask(void *x) {
+    unsigned char here;
+    entry = &here;
+    lamp = filterbox_lamp(list, words, frame, sizeof frame, 0, table, 9 * SLOTS, out.number);
+    return x;
+}
+
+static size_t measure(void *(*call)(void *)) {
     pthread_t t;
     pthread_attr_t a;
-    make(k);
     memset(stack, 0xa5, STACK);
     pthread_attr_init(&a);
-    if (pthread_attr_setstack(&a, stack, STACK) || pthread_create(&t, &a, run, 0)) exit(1);
+    if (pthread_attr_setstack(&a, stack, STACK) || pthread_create(&t, &a, call, 0)) exit(1);
     pthread_join(t, 0);
     size_t i = 0;
     while (stack[i] == 0xa5) i++;
@@ -54,11 +64,14 @@ static size_t measure(unsigned k) {
 
 int main(void) {
     scratch_words = (size_t)SLOTS * filterbox_scratch_words();
-    measure(1);
+    make(1);
+    measure(run);
     size_t first = 0, last = 0;
     for (unsigned k = 0; k <= 256; k += k < 8 ? 1 : 31) {
-        size_t s = measure(k);
-        printf("questions %3u: %6zu bytes, refusal %u, number %u\n", k, s, out.refusal, out.number);
+        make(k);
+        size_t s = measure(run), l = measure(ask);
+        printf("questions %3u: %6zu bytes, refusal %u, number %u; lamp: %zu bytes, refusal %u, lit %u, asked %u\n", k, s, out.refusal,
+               out.number, l, lamp.refusal, lamp.lit, lamp.asked);
         if (k == 8) first = s;
         last = s;
     }

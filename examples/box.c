@@ -1,6 +1,6 @@
 /*
- * Compiles three filters, classifies one frame with them, and scans it by the list alone. From the
- * repository root, once the library is built:
+ * Compiles three filters, classifies one frame with them, scans it by the list alone, and asks whether
+ * any filter matches it. From the repository root, once the library is built:
  *
  *   gcc -Wall -Iinclude examples/box.c target/staticlib/libfilterbox.a -o box && ./box
  *
@@ -60,5 +60,9 @@ int main(void) {
     FilterboxScanned scanned =
         filterbox_scan(list, sizeof list / sizeof *list, frame, sizeof frame, 0);
     printf("scanned: refusal %" PRIu32 ", set %" PRIu32 "\n", scanned.refusal, scanned.set);
+    FilterboxLamp lamp = filterbox_lamp(list, sizeof list / sizeof *list, frame, sizeof frame, 0,
+                                        table, TABLE_WORDS, built.number);
+    printf("lamp: refusal %" PRIu32 ", lit %" PRIu32 ", asked %" PRIu32 "\n", lamp.refusal, lamp.lit,
+           lamp.asked);
     return 0;
 }

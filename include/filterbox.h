@@ -1,6 +1,6 @@
 /*
  * filterbox: compiles a list of packet filters into a table, and walks frames through the table; or
- * scans a frame by the list alone.
+ * scans a frame by the list alone; or says whether any filter matches at all.
  *
  * The library keeps nothing between calls and allocates nothing: all memory is lent by the caller,
  * who may call it from any thread. It never fails in any other way than by the refusal numbers
@@ -135,6 +135,31 @@ typedef struct FilterboxScanned {
  */
 FilterboxScanned filterbox_scan(const uint32_t *list, size_t list_len, const uint8_t *frame,
                                 size_t frame_len, uint8_t port);
+
+/* What the lamp answers. */
+typedef struct FilterboxLamp {
+    uint32_t refusal; /* 0, or 1 to 9, 12 or 13 where refused */
+    uint32_t filter;  /* the filter's number for refusals 1 to 9 (32 for 1), else 0 */
+    uint32_t lit;     /* 1 where some filter matches, 0 where none does or where refused */
+    uint32_t asked;   /* the number of questions asked; 0 where refused */
+} FilterboxLamp;
+
+/*
+ * Says whether any filter of a list matches a frame, for an activity lamp. It works out from the
+ * list what each answer leaves of it as it walks the table, and ends as soon as all tests of some
+ * filter are known to hold, or nothing is left to ask.
+ *
+ * list: the list that the table was built from; frame, port, table and states: as for
+ * filterbox_classify.
+ *
+ * Refusals 1 to 9 come before 12, and 12 before 13. Here 13 is also given for a record on the way
+ * that asks another question than the list asks there, or is final where the list is not, or the
+ * other way round; so a table of another list is refused where it differs. Of a final record only
+ * the kind is looked at, and the sets of no record. Nothing lent is written.
+ */
+FilterboxLamp filterbox_lamp(const uint32_t *list, size_t list_len, const uint8_t *frame,
+                             size_t frame_len, uint8_t port, const uint32_t *table,
+                             size_t table_len, uint32_t states);
 
 /* Answers the number of scratch words that building takes for each slot of the table. */
 uint32_t filterbox_scratch_words(void);

@@ -1,7 +1,8 @@
 //! Measures the library beside ordinary Rust code that does the same, as ratios in one run.
 //!
-//! - `filterbox-bench`: nanoseconds a frame for three lists, walked and scanned, and build times, as
-//!   three small tables;
+//! - `filterbox-bench`: nanoseconds a frame for three lists, walked, scanned and asked by the lamp, and
+//!   build times, as four small tables;
+//! - `filterbox-bench lamp`: the lamp's table alone;
 //! - `filterbox-bench count CASE WHO N`: classifies N frames of a case (a, b, c) with one contender
 //!   (library, in-turn, sorted, walk) and nothing else, for counting instructions;
 //! - `filterbox-bench far CASE CALL N`: the same over the pipe of the tests, where the library cannot
@@ -28,6 +29,8 @@ use scanner::{InTurn, Sorted};
 
 const FRAMES: usize = 16_384;
 const ROUNDS: usize = 31;
+/// The lamp works residues out, and takes many times as long a frame.
+const LAMP_FRAMES: usize = 1_024;
 
 /// A list with its table and frames.
 struct Case {
@@ -144,6 +147,33 @@ fn scan_table(cases: &[Case]) {
     }
 }
 
+/// Whether anything matches, by list and table; the plain one is the same algorithm.
+fn lamp_table(cases: &[Case]) {
+    println!("\nThe lamp, ns a frame and ratio to the plain one");
+    println!("{:<26}{:>10}{:>12}{:>12}{:>7}", "list", "questions", "plain", "library", "ratio");
+    for case in cases {
+        let frames = case.frames[..LAMP_FRAMES].to_vec();
+        let (list, table) = (case.list.clone(), case.table.clone());
+        let case = &Case { name: case.name, list, table, states: case.states, frames };
+        let plain = |frame: &[u8]| plain::lamp(&case.list, frame, 0, &case.table, case.states);
+        let ours = |frame: &[u8]| library::lamp(&case.list, frame, 0, &case.table, case.states);
+        assert!(case.frames.iter().all(|frame| plain(frame) == ours(frame)));
+        let asked: u32 = case.frames.iter().map(|frame| ours(frame).asked).sum();
+        let mut times = [const { Vec::new() }; 2];
+        for _ in 0..ROUNDS {
+            times[0].push(time(case, |frame| plain(frame).lit));
+            times[1].push(time(case, |frame| ours(frame).lit));
+        }
+        let [base, whole] = times.map(|mut rounds| median(&mut rounds));
+        let questions = f64::from(asked) / case.frames.len() as f64;
+        println!(
+            "{:<26}{questions:>10.1}{base:>12.1}{whole:>12.1}{:>7.2}",
+            case.name,
+            whole / base
+        );
+    }
+}
+
 fn built_by_the_library(case: &Case) -> Vec<u32> {
     let mut table = vec![0; case.table.len()];
     let mut scratch = vec![0; case.states as usize * library::scratch_words()];
@@ -246,10 +276,12 @@ fn main() {
         [] => {
             classify_table(&cases());
             scan_table(&cases());
+            lamp_table(&cases());
             build_table();
         }
+        ["lamp"] => lamp_table(&cases()),
         ["count", name, who, frames] => count(&case(name), who, frames.parse().expect("a number")),
         ["far", name, call, frames] => far(&case(name), call, frames.parse().expect("a number")),
-        _ => panic!("usage: filterbox-bench [count CASE WHO FRAMES | far CASE CALL FRAMES]"),
+        _ => panic!("usage: filterbox-bench [lamp | count CASE WHO FRAMES | far CASE CALL FRAMES]"),
     }
 }

@@ -4,7 +4,7 @@
 //!
 //! Bounds are tested as Rust tests them. Nothing is allocated.
 
-pub use filterbox_sys::{Answer, Built};
+pub use filterbox_sys::{Answer, Built, Lamp};
 
 // Document 01's numbers, named here for the bench and the stand-in.
 pub const MOST_SLOTS: usize = 4096;
@@ -55,6 +55,10 @@ struct Test {
 impl Test {
     fn from(words: &[u32]) -> Test {
         Test { kind: words[0], field: words[1], mask: words[2], value: words[3] }
+    }
+
+    fn words(&self) -> [u32; TEST] {
+        [self.kind, self.field, self.mask, self.value]
     }
 
     fn of(&self, x: u32) -> bool {
@@ -385,7 +389,7 @@ impl Builder<'_> {
         let record = &mut self.table[n * RECORD..][..RECORD];
         record.fill(0);
         if let Some(test) = question {
-            record[..TEST].copy_from_slice(&[test.kind, test.field, test.mask, test.value]);
+            record[..TEST].copy_from_slice(&test.words());
         }
         record[SURE_AT] = sure;
         record[OUT_AT] = out;
@@ -555,6 +559,52 @@ pub fn classify(frame: &[u8], port: u8, table: &[u32], states: u32, allowance: u
             return refused(13);
         }
         number = next;
+        asked += 1;
+    }
+}
+
+/// Whether any filter matches: the state is worked out in one slot, beside the walk.
+pub fn lamp(list: &[u32], frame: &[u8], port: u8, table: &[u32], states: u32) -> Lamp {
+    let refused = |refusal, filter| Lamp { refusal, filter, lit: 0, asked: 0 };
+    let filters = match check(list) {
+        Ok(filters) => filters,
+        Err(built) => return refused(built.refusal, built.number),
+    };
+    if frame.len() > 1522 {
+        return refused(12, 0);
+    }
+    if states == 0 || states as usize > (table.len() / RECORD).min(MOST_SLOTS) {
+        return refused(13, 0);
+    }
+    let header = read_header(frame, port);
+    let below = ranks(list, filters);
+    let (table_of, scratch) = (&mut [], &mut [0; SLOT]);
+    let candidate = [0; SLOT];
+    let mut walk =
+        Builder { table: table_of, scratch, slots: 1, used: 0, filters, below, candidate };
+    walk.start(list);
+    let mut number = 0;
+    let mut asked = 0;
+    loop {
+        walk.scratch.copy_from_slice(&walk.candidate);
+        let record = &table[number as usize * RECORD..][..RECORD];
+        let question = walk.question(0);
+        let held = walk.candidate[..walk.width()].chunks_exact(FILTER).any(|words| words[0] == 0);
+        let as_is = question.map_or(record[0] == 0, |test| record[..TEST] == test.words());
+        if !as_is {
+            return refused(13, 0);
+        }
+        let Some(test) = question.filter(|_| !held) else {
+            return Lamp { refusal: 0, filter: 0, lit: held.into(), asked };
+        };
+        let field = test.field as usize;
+        let present = header.present >> field & 1 == 1;
+        let way = if !present { 2 } else { usize::from(!test.of(header.values[field])) };
+        if record[TEST + way] >= states {
+            return refused(13, 0);
+        }
+        walk.step(0, fact(test, way));
+        number = record[TEST + way];
         asked += 1;
     }
 }

@@ -22,7 +22,7 @@
 /* The calls' numbers; tests/src/pipe.rs has the same. The last two are no calls of the library.
    NOTHING is classifying that answers at once: what a call takes beside the library. OVERRUN writes
    beside its room, or reads there, to see that this is found. */
-enum { SCRATCH_WORDS = 1, BUILD = 2, CLASSIFY = 3, SCAN = 4, NOTHING = 254, OVERRUN = 255 };
+enum { SCRATCH_WORDS = 1, BUILD = 2, CLASSIFY = 3, SCAN = 4, LAMP = 5, NOTHING = 254, OVERRUN = 255 };
 
 /* Where the rooms of a call lie. */
 enum { MIDDLE = 0, FRONT = 1, BACK = 2 };
@@ -195,6 +195,15 @@ static void call(void) {
         answer[0] = scanned.refusal;
         answer[1] = scanned.filter;
         answer[2] = scanned.set;
+        break;
+    }
+    case LAMP: {
+        FilterboxLamp lamp = filterbox_lamp(words(0), length(0), room[1], head.bytes[1],
+                                            (uint8_t)n[0], words(2), length(2), n[1]);
+        answer[0] = lamp.refusal;
+        answer[1] = lamp.filter;
+        answer[2] = lamp.lit;
+        answer[3] = lamp.asked;
         break;
     }
     case OVERRUN: {

@@ -17,6 +17,8 @@ use crate::sizes::Set;
 pub struct Point {
     pub sure: Set,
     pub out: Set,
+    /// All tests of some filter are known to hold.
+    pub held: bool,
     pub asked: Option<(Test, Outcome)>,
 }
 
@@ -47,12 +49,14 @@ pub fn path_by(filters: &[Filter], answer: &mut dyn FnMut(&Test) -> Outcome) -> 
     loop {
         let out = out_set(filters, &remains);
         let sure = sure_set(filters, &remains, out);
+        // One that is beaten by another leaves that other.
+        let held = remains.iter().any(|tests| all_true(tests));
         let Some(question) = question(&remains, out) else {
-            points.push(Point { sure, out, asked: None });
+            points.push(Point { sure, out, held, asked: None });
             return points;
         };
         let ends = answer(&question);
-        points.push(Point { sure, out, asked: Some((question, ends)) });
+        points.push(Point { sure, out, held, asked: Some((question, ends)) });
         learn(&mut remains, &question, ends);
     }
 }

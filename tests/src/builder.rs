@@ -48,10 +48,19 @@ pub fn build(list: &[u32], table: &mut [u32], scratch: &mut [u32], slot_words: u
     Built { refusal: 0, number: records.len() as u32 }
 }
 
+/// Which of its remaining tests a state asks; none in a final state.
+pub type Pick = fn(&State) -> Option<Test>;
+
 /// The records of all states in the order of their numbers, or none where there are more states
 /// than slots.
 pub fn records(filters: &[Filter], slots: usize) -> Option<Vec<Record>> {
-    let mut building = Building { filters, slots, numbers: HashMap::new(), records: Vec::new() };
+    records_by(filters, slots, question)
+}
+
+/// The same with another pick of questions.
+pub fn records_by(filters: &[Filter], slots: usize, pick: Pick) -> Option<Vec<Record>> {
+    let numbers = HashMap::new();
+    let mut building = Building { filters, slots, pick, numbers, records: Vec::new() };
     building.state(start(filters))?;
     Some(building.records)
 }
@@ -59,6 +68,7 @@ pub fn records(filters: &[Filter], slots: usize) -> Option<Vec<Record>> {
 struct Building<'a> {
     filters: &'a [Filter],
     slots: usize,
+    pick: Pick,
     numbers: HashMap<State, u32>,
     records: Vec<Record>,
 }
@@ -78,7 +88,7 @@ impl Building<'_> {
         record[OUT_AT] = out_set(&state);
         self.records.push(record);
         self.numbers.insert(state.clone(), number as u32);
-        if let Some(question) = question(&state) {
+        if let Some(question) = (self.pick)(&state) {
             self.records[number][..TEST_WORDS].copy_from_slice(&question.words());
             for (way, outcome) in OUTCOMES.into_iter().enumerate() {
                 let learnt = fact(question, outcome, full(question.field));

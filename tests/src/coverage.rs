@@ -2,6 +2,7 @@
 
 use crate::fields::{later_fragment, read, FIELDS, ICMP, NAMES, TCP, UDP};
 use crate::frames::{Frame, MORE_FRAGMENTS};
+use crate::lamp::Lamp;
 use crate::residue::{Outcome, OUTCOMES};
 use crate::rules::Test;
 use crate::walker::Answer;
@@ -23,6 +24,9 @@ pub struct Coverage {
     kinds: [[u64; 3]; 4],
     fields: [[u64; 3]; FIELDS],
     ended: [u64; 3],
+    /// Lamps lit, dark, and those lit while no filter was sure; and those refused with 13.
+    lamps: [u64; 3],
+    damaged_lamps: u64,
     /// Fragments with offset 0 and more to come, and those with another offset, by protocol.
     first_fragments: [u64; 3],
     pub later_fragments: [u64; 3],
@@ -49,6 +53,18 @@ impl Coverage {
         self.answers += 1;
         self.ended[answer.ended as usize] += 1;
         self.refusal(answer.refusal);
+    }
+
+    /// A lamp that was not refused for its list or its frame, and the sure set where it ended.
+    pub fn lamp(&mut self, lamp: &Lamp, sure: u32) {
+        match (lamp.refusal, lamp.lit) {
+            (0, 0) => self.lamps[1] += 1,
+            (0, _) => {
+                self.lamps[0] += 1;
+                self.lamps[2] += u64::from(sure == 0);
+            }
+            _ => self.damaged_lamps += 1,
+        }
     }
 
     pub fn question(&mut self, test: &Test, outcome: Outcome) {
@@ -78,6 +94,8 @@ impl Coverage {
         for (i, name) in ENDED.iter().enumerate() {
             line(format!("ended: {name}"), &self.ended[i..=i], &[]);
         }
+        line("refusal 13 by the lamp".to_string(), &[self.damaged_lamps], &[]);
+        line("lamps: lit, dark, unsure".to_string(), &self.lamps, &[]);
         line("questions: holds, fails, absent".to_string(), &self.outcomes(), &[]);
         for (i, name) in KINDS.iter().enumerate() {
             line(format!("kind {}, {name}", i + 1), &self.kinds[i], &[]);

@@ -8,6 +8,7 @@ use crate::brute::{path, Point};
 use crate::coverage::Coverage;
 use crate::fields::read;
 use crate::frames::Frame;
+use crate::lamp::Lamp;
 use crate::rules::{tests, words, Filter};
 use crate::scanner::match_set;
 use crate::sizes::Set;
@@ -99,5 +100,28 @@ pub fn check(
     if full.ended != DONE || full.sure != matches {
         return Err(tell(format!("not done after all tests: {full:?}, scanner {matches:b}")));
     }
+    Ok(())
+}
+
+/// Compares what the lamp shows of a built table with the scanner and the residue rules: it is lit where
+/// anything matches, and ends at the first point of the frame's path where all tests of some filter
+/// are known to hold or nothing is left to ask.
+pub fn check_lamp(
+    filters: &[Filter],
+    frame: &Frame,
+    coverage: &mut Coverage,
+    lamp: Lamp,
+) -> Result<(), String> {
+    let readings = read(&frame.bytes, frame.port);
+    let points = path(filters, &readings);
+    let ends = |point: &Point| point.held || point.asked.is_none();
+    let asked = points.iter().position(ends).expect("a path ends");
+    let lit = u32::from(match_set(filters, &readings) != 0);
+    let should = Lamp { refusal: 0, filter: 0, lit, asked: asked as u32 };
+    if lamp != should {
+        let case = describe(&words(filters), frame);
+        return Err(format!("lamp: got {lamp:?}, should be {should:?}\n{case}"));
+    }
+    coverage.lamp(&lamp, points[asked].sure);
     Ok(())
 }

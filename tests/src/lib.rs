@@ -12,6 +12,7 @@
 //! - `brute`: the sets after each outcome, worked out from the whole list each time
 //! - `builder`: states, numbers, records, refusals 10 and 11, the words afterwards
 //! - `walker`: a frame's walk through a table's words, refusals 12 and 13
+//! - `lamp`: whether any filter matches, by a walk beside the frame's path
 //! - `demands`: what the answers for one frame must be at every allowance
 //! - `program`: what the program `compile` prints for a text
 //! - `examples`: lists with known answers
@@ -31,6 +32,7 @@ pub mod demands;
 pub mod examples;
 pub mod fields;
 pub mod frames;
+pub mod lamp;
 #[cfg(feature = "library")]
 pub mod library;
 pub mod lists;

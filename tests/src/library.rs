@@ -8,7 +8,7 @@ use std::env;
 use std::sync::OnceLock;
 
 use filterbox_sys as linked;
-use filterbox_sys::{Answer, Built, Scanned};
+use filterbox_sys::{Answer, Built, Lamp, Scanned};
 
 use crate::pages::{lent, shown};
 use crate::pipe::{self, Call, Place, Room, Words};
@@ -96,6 +96,21 @@ impl Library {
         }
         shown(self.place, list, |list| {
             shown(self.place, frame, |frame| linked::scan(list, frame, port))
+        })
+    }
+
+    /// Whether any filter of a list matches.
+    pub fn lamp(self, list: &[u32], frame: &[u8], port: u8, table: &[u32], states: u32) -> Lamp {
+        if self.piped {
+            let numbers = [u32::from(port), states];
+            let rooms = &mut [Room::Shown(list), Room::Bytes(frame), Room::Shown(table)];
+            let [refusal, filter, lit, asked, ..] = self.call(pipe::LAMP, &numbers, rooms);
+            return Lamp { refusal, filter, lit, asked };
+        }
+        shown(self.place, list, |list| {
+            shown(self.place, frame, |frame| {
+                shown(self.place, table, |table| linked::lamp(list, frame, port, table, states))
+            })
         })
     }
 

@@ -15,6 +15,7 @@ pub const SCRATCH_WORDS: u32 = 1;
 pub const BUILD: u32 = 2;
 pub const CLASSIFY: u32 = 3;
 pub const SCAN: u32 = 4;
+pub const LAMP: u32 = 5;
 /// No calls of the library: classifying that answers at once, by which instructions are counted, and
 /// touching a byte beside a room, to see that this is found.
 pub const NOTHING: u32 = 254;

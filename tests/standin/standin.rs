@@ -6,7 +6,7 @@ mod plain;
 #[path = "../../bench/src/scanner.rs"]
 mod scanner;
 
-use filterbox_sys::Scanned;
+use filterbox_sys::{Lamp, Scanned};
 use plain::{Answer, Built, WordByWord, MOST_FRAME, SLOT};
 use scanner::InTurn;
 use std::slice::{from_raw_parts, from_raw_parts_mut};
@@ -71,6 +71,28 @@ pub unsafe extern "C" fn filterbox_scan(
     Scanned { refusal: 0, filter: 0, set: InTurn::new(list).scan_in_turn(frame, port) }
 }
 
+/// # Safety
+/// Each pointer must be good for as much as the length behind it says.
+#[no_mangle]
+pub unsafe extern "C" fn filterbox_lamp(
+    list: *const u32,
+    list_len: usize,
+    frame: *const u8,
+    frame_len: usize,
+    port: u8,
+    table: *const u32,
+    table_len: usize,
+    states: u32,
+) -> Lamp {
+    plain::lamp(
+        from_raw_parts(list, list_len),
+        from_raw_parts(frame, frame_len),
+        port,
+        from_raw_parts(table, table_len),
+        states,
+    )
+}
+
 #[no_mangle]
 pub extern "C" fn filterbox_scratch_words() -> u32 {
     SLOT as u32
@@ -80,4 +102,5 @@ pub extern "C" fn filterbox_scratch_words() -> u32 {
 const _: filterbox_sys::types::filterbox_build = filterbox_build;
 const _: filterbox_sys::types::filterbox_classify = filterbox_classify;
 const _: filterbox_sys::types::filterbox_scan = filterbox_scan;
+const _: filterbox_sys::types::filterbox_lamp = filterbox_lamp;
 const _: filterbox_sys::types::filterbox_scratch_words = filterbox_scratch_words;

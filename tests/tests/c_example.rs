@@ -13,6 +13,7 @@ allowance 0: stopped, sure 0, out 0, asked 0
 allowance 1: stopped, sure 1, out 2, asked 1
 allowance 2: done, sure 5, out 2, asked 2
 scanned: refusal 0, set 5
+lamp: refusal 0, lit 1, asked 1
 ";
 
 /// Warnings count as errors: the header is read by other people's compilers.

@@ -5,6 +5,7 @@
 use filterbox_tests::builder::{self, Built, RECORD_WORDS};
 use filterbox_tests::examples::{empty_filters, ECHO};
 use filterbox_tests::frames::{echo_request, towards};
+use filterbox_tests::lamp;
 use filterbox_tests::library::{library, Library};
 use filterbox_tests::lists::{faulty, list, style};
 use filterbox_tests::pipe::{self, Call, Place, Room};
@@ -72,6 +73,11 @@ fn one_case(case: usize) {
         let frame = towards(random, &filters);
         // A table that was refused is all zeros, and its number of states is any.
         let states = if built.refusal == 0 { built.number } else { random.below(3) as u32 };
+        let list = words(&filters);
+        let ask = |by: Library| by.at(place).lamp(&list, &frame.bytes, frame.port, &table, states);
+        let over_the_pipe = ask(Library::piped());
+        assert_eq!(over_the_pipe, ask(library()), "{frame:?}");
+        assert_eq!(over_the_pipe, lamp::lamp(&list, &frame, &table, states), "{frame:?}");
         for allowance in [0, 1, 4, u32::MAX] {
             let ask = |by: Library| {
                 by.at(place).classify(&frame.bytes, frame.port, &table, states, allowance)

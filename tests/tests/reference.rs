@@ -13,6 +13,7 @@ use filterbox_tests::examples::{
 };
 use filterbox_tests::fields::{full, greatest, read, Readings, FIELDS, ICMP, TCP, UDP};
 use filterbox_tests::frames::{compose, echo_request, fragment, hand_made, towards, Frame, Layout};
+use filterbox_tests::lamp::lamp;
 use filterbox_tests::lists::{self, style};
 use filterbox_tests::program;
 use filterbox_tests::random::Random;
@@ -385,6 +386,8 @@ fn walk_agrees(filters: &[Filter], frames: &[Frame], coverage: &mut Coverage) {
             classify(&frame.bytes, frame.port, &table, states, allowance)
         });
         result.unwrap_or_else(|text| panic!("{text}"));
+        let lamp = lamp(&words(filters), frame, &table, states);
+        demands::check_lamp(filters, frame, coverage, lamp).unwrap_or_else(|text| panic!("{text}"));
     }
 }
 

@@ -10,12 +10,13 @@ use mathlib.Core.Path.{_≡_}
 use mathlib.Core.Logic.{_⊎_}
 use mathlib.Core.Bool.{true, false, not, _&&_}
 use mathlib.Core.List.{List}
+use lib.Dec.{eqb}
 use lib.ListN.{length}
 use Rattle.residue.specs.declared.Outcome.{Outcome}
 use Rattle.fields.specs.Fields.{field}
-use Rattle.sets.specs.Sets.{member}
+use Rattle.sets.specs.Sets.{bit, member}
 use Rattle.lists.specs.Filters.{Item, Filter, filtersOf, testsIn}
-use Rattle.lists.specs.Ranks.{matches}
+use Rattle.lists.specs.Ranks.{matches, matchSet}
 use Rattle.lists.specs.Refusals.{listed}
 use Rattle.lists.specs.laws.Accepted.{accepted-well}
 use Rattle.lists.specs.declared.Listed.the-variants.{Accepted}
@@ -28,14 +29,19 @@ use Rattle.automaton.specs.Lawful.{Reached, Distinct}
 use Rattle.tables.specs.Tables.{slotsOf}
 use Rattle.machine.specs.Box.{boxOf, statesOf}
 use Rattle.machine.specs.laws.Lawful.{states-distinct, states-reached, reached-states}
+use Rattle.states.specs.laws.Well.{well-start, well-follow}
 use Rattle.matcher.specs.declared.Answer.{Answer}
-use Rattle.matcher.specs.Walk.{found, isDone, walk}
+use Rattle.matcher.specs.Walk.{found, isDone, damaged, walk}
 use Rattle.scanner.specs.Scan.{scanned}
 use Rattle.scanner.specs.declared.Scanned.the-variants.{Matched}
+use Rattle.lamp.specs.Lamp.{Numbers, numbersOf, asIs, lampEnds, lampOf}
+use Rattle.lamp.specs.laws.Truths.{lamp-shows, shows-lit, shows-asked}
 use Rattle.builder.specs.Outcome.{refusalOf, numberOf, Left, scratchWords, outcome}
 use Rattle.labels.specs.Labels.{shownAt, Legal}
+use Rattle.labels.specs.laws.Truths.{legal-widths}
 use Rattle.demands.specs.laws.Builds.{build-full, build-fits}
-use Rattle.demands.specs.laws.Settled.{exact, all-done, all-matches, all-scanned, open-so, sure-so, out-so, sure-kept, out-kept, none-left, asked-few}
+use Rattle.demands.specs.laws.Lamps.{damage-refused}
+use Rattle.demands.specs.laws.Settled.{exact, all-done, all-matches, all-scanned, all-lamps, open-so, sure-so, out-so, sure-kept, out-kept, none-left, asked-few}
 use Rattle.demands.specs.laws.Paths.{once}
 
 module _ (l t s : List ℕ) where
@@ -57,6 +63,10 @@ module _ (l t s : List ℕ) where
     -- Change request P1: then the scanner, which has no table, names the same set.
     pub scanner-agrees : (a : ℕ) → testsIn fs ≤ a → scanned l f p ≡ Matched (found (w a) .sure)
     scanner-agrees = all-scanned l t s built f p legal
+
+    -- Change request P4: the lamp is not refused over what was built.
+    pub lamp-built : numbersOf (lampOf l f p (b .table) (numberOf (b .answer))) .refusal ≡ 0
+    lamp-built = all-lamps l t s built f p legal
 
     -- Demand 3: whatever the allowance, end, sets and count are those of the state that the residue rules reach by that many questions at most.
     pub demand-3-exact : (a : ℕ) → w a ≡ shownAt fs (run fs (field f p) a (start fs)) (askedIn fs (field f p) a (start fs))
@@ -107,3 +117,20 @@ module _ (l t s : List ℕ) where
 
     pub paths-once : (os os' : List Outcome) (o : Outcome) (q : Item) → questionOf (follow fs os (start fs)) ≡ ask q → questionOf (follow fs os' (step fs o (follow fs os (start fs)))) ≡ ask q → ⊥
     paths-once = once fs (accepted-well l n k accepted)
+
+    -- Change request P4: over any table, of any number of states, that is not refused on the way of the frame.
+    module _ (f : List ℕ) (p : ℕ) (legal : Legal f p) (table : List ℕ) (m : ℕ) where
+      abbrev lamp : Numbers
+      lamp = numbersOf (lampOf l f p table m)
+
+      -- The lamp is lit exactly where the match set is not empty.
+      pub lamp-lit : lamp .refusal ≡ 0 → lamp .lit ≡ bit (not (eqb (matchSet fs (field f p)) 0))
+      lamp-lit = shows-lit fs (field f p) (accepted-well l n k accepted) (legal-widths f p legal) (lampOf l f p table m) (lamp-shows l f p table m n k accepted (legal .short))
+
+      -- It asks up to the first state that has a held filter or is final, and no further.
+      pub lamp-asked : lamp .refusal ≡ 0 → (lampEnds (run fs (field f p) (lamp .asked) (start fs)) ≡ true) × ((j : ℕ) → j < lamp .asked → lampEnds (run fs (field f p) j (start fs)) ≡ false)
+      lamp-asked = shows-asked fs (field f p) (lampOf l f p table m) (lamp-shows l f p table m n k accepted (legal .short))
+
+    -- A damaged record is what document 01 gives for no state that outcomes reach, so the lamp refuses it.
+    pub lamp-damage : (table : List ℕ) (i : ℕ) (os : List Outcome) → damaged table i ≡ true → asIs table i (questionOf (follow fs os (start fs))) ≡ false
+    lamp-damage table i os = damage-refused table i (follow fs os (start fs)) (well-follow fs os (start fs) (well-start fs (accepted-well l n k accepted)))

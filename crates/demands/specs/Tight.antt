@@ -11,7 +11,7 @@ use Rattle.matcher.specs.declared.Answer.{Answer}
 use Rattle.matcher.specs.Walk as W
 use Rattle.demands.specs.Whole.{Whole, Rooms}
 
--- An answer that equals a definition: `check`, `rank_sets`, `scan`, `read_field`, `residue_of` and all whose promise is one equation.
+-- An answer that equals a definition: `check`, `rank_sets`, `scan`, `light`, `read_field`, `residue_of` and all whose promise is one equation.
 pub equation-tight : {A : Type 0} (d x y : A) → x ≡ d → y ≡ d → x ≡ y
 equation-tight d x y u v = u ∙ sym v
 

@@ -1,5 +1,6 @@
 pub mod Builds
 pub mod Labelled
+pub mod Lamps
 pub mod Paths
 pub mod Settled
 pub mod Whole

@@ -2,6 +2,7 @@
 --   endedWith e r x  how a walk ended (0 refused, 1 done, 2 stopped), the refusal's number, and what was found
 --   classified a     these numbers for each case of the enum Answer
 --   matched a        the refusal's number or 0, the filter's number, the match set, for each case of the enum Scanned
+--   lampWith n       the numbers of the lamp's answer
 --   builtWith b      the refusal's number or 0, the number of states or the filter's number, for each case of the enum Built
 --   Compiled         an answer and the words afterwards are those of an outcome of building
 use mathlib.Core.Path.{_≡_}
@@ -13,10 +14,12 @@ use Rattle.matcher.specs.declared.Answer.the-variants as A
 use Rattle.matcher.specs.Walk.{found}
 use Rattle.scanner.specs.declared.Scanned.{Scanned}
 use Rattle.scanner.specs.declared.Scanned.the-variants as S
+use Rattle.lamp.specs.Lamp as L
 use Rattle.builder.specs.declared.Built.{Built}
 use Rattle.builder.specs.Outcome as B
 use Rattle.filterbox.specs.declared.FilterboxAnswer.{FilterboxAnswer}
 use Rattle.filterbox.specs.declared.FilterboxBuilt.{FilterboxBuilt}
+use Rattle.filterbox.specs.declared.FilterboxLamp.{FilterboxLamp}
 use Rattle.filterbox.specs.declared.FilterboxScanned.{FilterboxScanned}
 
 abbrev pub endedWith : ℕ → ℕ → Found → FilterboxAnswer
@@ -32,6 +35,9 @@ classified (A.Refused n) = endedWith 0 n (found (A.Refused n))
 unfoldable pub matched : Scanned → FilterboxScanned
 matched (S.Matched s) = record { refusal = 0; filter = 0; set = s }
 matched (S.Refused r i) = record { refusal = r; filter = i; set = 0 }
+
+abbrev pub lampWith : L.Numbers → FilterboxLamp
+lampWith n = record { refusal = n .refusal; filter = n .filter; lit = n .lit; asked = n .asked }
 
 abbrev pub builtWith : Built → FilterboxBuilt
 builtWith b = record { refusal = B.refusalOf b; number = B.numberOf b }

@@ -5,10 +5,13 @@ use mathlib.Core.List.{List}
 use Rattle.slots.specs.Words.{slotWords}
 use Rattle.matcher.specs.declared.Answer.{Answer}
 use Rattle.scanner.specs.declared.Scanned.{Scanned}
+use Rattle.lamp.specs.declared.Lamp.{Lamp}
+use Rattle.lamp.specs.Lamp.{numbersOf}
 use Rattle.builder.specs.Outcome as B
-use Rattle.filterbox.specs.Numbers.{classified, matched, Compiled}
+use Rattle.filterbox.specs.Numbers.{classified, matched, lampWith, Compiled}
 use Rattle.filterbox.specs.declared.FilterboxAnswer.{FilterboxAnswer}
 use Rattle.filterbox.specs.declared.FilterboxBuilt.{FilterboxBuilt}
+use Rattle.filterbox.specs.declared.FilterboxLamp.{FilterboxLamp}
 use Rattle.filterbox.specs.declared.FilterboxScanned.{FilterboxScanned}
 
 -- filterbox_build: both numbers, and each word of the lent memory afterwards.
@@ -27,6 +30,10 @@ filterbox-classify-tight w a b x y = x ∙ sym y
 -- filterbox_scan: the three numbers; it writes nothing.
 pub filterbox-scan-tight : (w : Scanned) (a b : FilterboxScanned) → a ≡ matched w → b ≡ matched w → a ≡ b
 filterbox-scan-tight w a b x y = x ∙ sym y
+
+-- filterbox_lamp: the four numbers; it writes nothing.
+pub filterbox-lamp-tight : (w : Lamp) (a b : FilterboxLamp) → a ≡ lampWith (numbersOf w) → b ≡ lampWith (numbersOf w) → a ≡ b
+filterbox-lamp-tight w a b x y = x ∙ sym y
 
 -- filterbox_scratch_words.
 pub filterbox-scratch-words-tight : (a b : ℕ) → a ≡ slotWords → b ≡ slotWords → a ≡ b

@@ -4,8 +4,10 @@ ghost use Rattle.slots.specs.Words.{slotWords};
 ghost use Rattle.builder.specs.Outcome.{outcome};
 ghost use Rattle.matcher.specs.Walk.{walk};
 ghost use Rattle.scanner.specs.Scan.{scanned};
-ghost use Rattle.filterbox.specs.Numbers.{builtWith, Compiled, endedWith, classified, matched};
+ghost use Rattle.lamp.specs.Lamp.{numbersOf, lampOf};
+ghost use Rattle.filterbox.specs.Numbers.{builtWith, Compiled, endedWith, classified, matched, lampWith};
 use builder::Built;
+use lamp::Lamp;
 use matcher::Answer;
 use matcher::Found;
 use scanner::Scanned;
@@ -139,4 +141,52 @@ pub extern "C" fn filterbox_scan(list: &[u32], frame: &[u8], port: u8) -> Filter
     ensures { λ r. ⌜ r ≡ matched (scanned (now (list .entry)) (now (frame .entry)) port) ⌝ }
 {
     scanned_of(scanner::scan(list, frame, port))
+}
+
+// The refusal's number or 0, the filter's number for refusals 1 to 9, 1 where the lamp is lit, and the questions asked. A refusal has zeros for the last two.
+#[repr(C)]
+pub struct FilterboxLamp {
+    pub refusal: u32,
+    pub filter: u32,
+    pub lit: u32,
+    pub asked: u32,
+}
+
+fn lamp_of(lamp: Lamp) -> FilterboxLamp
+    ensures { λ r. ⌜ r ≡ lampWith (numbersOf lamp) ⌝ }
+{
+    match lamp {
+        Lamp::Lit(asked) => FilterboxLamp {
+            refusal: 0,
+            filter: 0,
+            lit: 1,
+            asked,
+        },
+        Lamp::Dark(asked) => FilterboxLamp {
+            refusal: 0,
+            filter: 0,
+            lit: 0,
+            asked,
+        },
+        Lamp::Refused(number, filter) => FilterboxLamp {
+            refusal: number,
+            filter,
+            lit: 0,
+            asked: 0,
+        },
+    }
+}
+
+// Whether any filter of a list matches a frame, which came in at a box port, by a walk through a table of so many states that was built from the list.
+#[no_mangle]
+pub extern "C" fn filterbox_lamp(
+    list: &[u32],
+    frame: &[u8],
+    port: u8,
+    table: &[u32],
+    states: u32,
+) -> FilterboxLamp
+    ensures { λ r. ⌜ r ≡ lampWith (numbersOf (lampOf (now (list .entry)) (now (frame .entry)) port (now (table .entry)) states)) ⌝ }
+{
+    lamp_of(lamp::light(list, frame, port, table, states))
 }

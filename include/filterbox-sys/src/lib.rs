@@ -34,6 +34,16 @@ pub struct Scanned {
     pub set: Set,
 }
 
+/// What the lamp answers.
+#[repr(C)]
+#[derive(Clone, Copy, PartialEq, Eq, Debug)]
+pub struct Lamp {
+    pub refusal: u32,
+    pub filter: u32,
+    pub lit: u32,
+    pub asked: u32,
+}
+
 /// Whether this program has the library's code in it; without it a call panics.
 pub const LINKED: bool = cfg!(linked);
 
@@ -77,6 +87,12 @@ calls! {
         frame: *const u8, frame_len: usize, port: u8
     ) -> Scanned;
 
+    fn filterbox_lamp(
+        list: *const u32, list_len: usize,
+        frame: *const u8, frame_len: usize, port: u8,
+        table: *const u32, table_len: usize, states: u32
+    ) -> Lamp;
+
     fn filterbox_scratch_words() -> u32;
 }
 
@@ -118,6 +134,24 @@ pub fn classify(frame: &[u8], port: u8, table: &[u32], states: u32, allowance: u
 pub fn scan(list: &[u32], frame: &[u8], port: u8) -> Scanned {
     // SAFETY: as above; the call writes nothing.
     unsafe { filterbox_scan(list.as_ptr(), list.len(), frame.as_ptr(), frame.len(), port) }
+}
+
+/// Whether any filter of a list matches.
+#[inline(always)]
+pub fn lamp(list: &[u32], frame: &[u8], port: u8, table: &[u32], states: u32) -> Lamp {
+    // SAFETY: as above; the call writes nothing.
+    unsafe {
+        filterbox_lamp(
+            list.as_ptr(),
+            list.len(),
+            frame.as_ptr(),
+            frame.len(),
+            port,
+            table.as_ptr(),
+            table.len(),
+            states,
+        )
+    }
 }
 
 /// The scratch words that a slot takes.

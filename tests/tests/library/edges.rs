@@ -5,6 +5,7 @@ use filterbox_tests::builder::{self, records, RECORD_WORDS};
 use filterbox_tests::coverage::Coverage;
 use filterbox_tests::examples::{empty_filters, ECHO};
 use filterbox_tests::frames::{towards, Frame};
+use filterbox_tests::lamp;
 use filterbox_tests::library::library;
 use filterbox_tests::lists::{list, style};
 use filterbox_tests::pipe::Place;
@@ -22,6 +23,7 @@ const ENDS: [Place; 2] = [Place::Front, Place::Back];
 pub fn run(runner: &mut Runner, coverage: &mut Coverage) {
     runner.check("builds_stay_inside_their_rooms", || builds(coverage));
     runner.check("classifying_stays_inside_and_only_reads", || classifying(coverage));
+    runner.check("the_lamp_stays_inside_and_only_reads", lamps);
     runner.check("frames_of_each_length_are_read_inside", || each_length(coverage));
 }
 
@@ -81,6 +83,23 @@ fn classifying(coverage: &mut Coverage) {
             for _ in 0..5 {
                 let frame = towards(random, &filters);
                 classify_at(&frame, &records.concat(), end, coverage);
+            }
+        }
+    }
+}
+
+fn lamps() {
+    for case in 0..LISTS {
+        let random = &mut Random::case(SEED ^ 2, case as u64);
+        let filters = list(random, style(case, LISTS));
+        let Some(records) = records(&filters, 100) else { continue };
+        let (list, table) = (words(&filters), records.concat());
+        for end in ENDS {
+            for states in [records.len() as u32, records.len() as u32 + 1, 1] {
+                let frame = towards(random, &filters);
+                let (bytes, port) = (&frame.bytes, frame.port);
+                let answer = library().at(end).lamp(&list, bytes, port, &table, states);
+                assert_eq!(answer, lamp::lamp(&list, &frame, &table, states), "{list:?} {frame:?}");
             }
         }
     }

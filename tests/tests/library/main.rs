@@ -6,6 +6,7 @@ mod damage;
 mod edges;
 mod faults;
 mod headers;
+mod lamp;
 mod numbers;
 mod random_lists;
 mod rooms;
@@ -25,6 +26,7 @@ fn main() {
     faults::run(&mut runner, &mut coverage);
     headers::run(&mut runner, &mut coverage);
     damage::run(&mut runner, &mut coverage);
+    lamp::run(&mut runner, &mut coverage);
     rooms::run(&mut runner, &mut coverage);
     random_lists::run(&mut runner, &mut coverage);
     // Last, since a call that leaves its memory ends the run here.

@@ -4,6 +4,7 @@ use filterbox_tests::builder::{self, Built, RECORD_WORDS};
 use filterbox_tests::coverage::Coverage;
 use filterbox_tests::demands::{self, describe};
 use filterbox_tests::frames::Frame;
+use filterbox_tests::lamp::{self, Lamp};
 use filterbox_tests::library::library;
 use filterbox_tests::rules::{words, Filter};
 use filterbox_tests::scanner::{self, Scanned};
@@ -90,6 +91,9 @@ pub fn build(
         let should =
             scanner::refused(should, long).unwrap_or(Scanned { refusal: 0, filter: 0, ..scanned });
         assert!(scanned == should, "scanned {scanned:?}, should be {should:?}\n{}", case());
+        for states in [0, built.number] {
+            lamp(list, &Frame { bytes: frame.clone(), port: 0 }, table.lend(), states);
+        }
     }
     assert!(given == list, "the list was changed\n{}", case());
     note_build(built, coverage);
@@ -129,6 +133,23 @@ pub fn classify(frame: &Frame, table: &[u32], states: u32, allowance: u32) -> An
     answer
 }
 
+/// The lamp as the library shows it, which the reference must show as well.
+pub fn lamp(list: &[u32], frame: &Frame, table: &[u32], states: u32) -> Lamp {
+    let answer = library().lamp(list, &frame.bytes, frame.port, table, states);
+    let should = lamp::lamp(list, frame, table, states);
+    if answer != should {
+        let records: Vec<String> =
+            table.chunks(RECORD_WORDS).take(64).map(|record| format!("{record:?}")).collect();
+        panic!(
+            "{states} states: got {answer:?}, should be {should:?}\n{}\ntable of {} words:\n{}",
+            describe(list, frame),
+            table.len(),
+            records.join("\n")
+        );
+    }
+    answer
+}
+
 /// The same, counted.
 pub fn classify_noted(
     frame: &Frame,
@@ -157,6 +178,8 @@ pub fn check_frame(filters: &[Filter], frame: &Frame, built: &Outcome, coverage:
     });
     checked.unwrap_or_else(|text| panic!("{text}"));
     let list = words(filters);
+    let shown = lamp(&list, frame, &built.table, states);
+    demands::check_lamp(filters, frame, coverage, shown).unwrap_or_else(|text| panic!("{text}"));
     let scanned = library().scan(&list, &frame.bytes, frame.port);
     let should = scanner::scan(filters, frame);
     assert!(

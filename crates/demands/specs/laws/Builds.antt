@@ -1,5 +1,5 @@
 -- What the answer of a build says of the list and the room.
---   Success l t s   the list is byRoom, its states fit the slots, and its records stand in the table
+--   Success l t s   the list is accepted, its states fit the slots, and its records stand in the table
 use Prim.Native.Nat.{ℕ, _≤_, _<_}
 use native.Mathlib.Omega.{arith}
 use mathlib.Core.Path.{_≡_, refl, ap, _∙_}
@@ -25,7 +25,7 @@ pub record Success (l t s : List ℕ) : Type 0 where
   pub fits : length (statesOf (filtersOf l)) ≤ slotsOf t
   pub left : outcome l t s ≡ placed (filtersOf l) t s
 
--- ---- an byRoom list
+-- ---- an accepted list
 
 module _ (fs : List Filter) (t s : List ℕ) where
   accepted-cases :

@@ -25,11 +25,13 @@ use Rattle.matcher.specs.Walk.{found, isDone}
 use Rattle.scanner.specs.Scan.{scanned}
 use Rattle.scanner.specs.laws.Scans.{scanned-set}
 use Rattle.scanner.specs.declared.Scanned.the-variants.{Matched}
+use Rattle.lamp.specs.Lamp.{numbersOf, lampOf}
 use Rattle.builder.specs.Outcome.{refusalOf, numberOf, placed, outcome}
 use Rattle.labels.specs.Labels.{shownAt, Legal}
 use Rattle.labels.specs.inner.Labelled.{LabelledBy}
 use Rattle.labels.specs.laws.Truths.{Shows, open-member, legal-widths, labelled-shows, labelled-keeps, picked-run, shows-done, shows-matches, shows-set, shows-settled, shows-sure, shows-out, shows-asked}
 use Rattle.demands.specs.laws.Labelled.{built-labelled}
+use Rattle.demands.specs.laws.Lamps.{labelled-lamp}
 use Rattle.demands.specs.laws.Builds.{Success, build-success}
 use Rattle.demands.specs.Settled.{walked}
 
@@ -71,6 +73,9 @@ module _ (l t s : List ℕ) (built : refusalOf (outcome l t s .answer) ≡ 0) wh
     all-scanned a enough =
         scanned-set l f p (success .listing .0) (success .listing .1) (success .listing .2) (legal .short) ∙
         ap Matched (sym (shows-set question-left (success .well) widths (shows a) enough))
+
+    pub all-lamps : numbersOf (lampOf l f p (outcome l t s .table) (numberOf (outcome l t s .answer))) .refusal ≡ 0
+    all-lamps = labelled-lamp l f p _ _ (success .listing .0) (success .listing .1) (success .listing .2) (legal .short) table-labelled
 
     pub sure-so : (a i : ℕ) → member i (found (walked l t s f p a) .sure) ≡ true → matches fs r i ≡ true
     sure-so a = shows-sure question-left (success .well) widths (shows a)

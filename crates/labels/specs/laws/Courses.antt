@@ -54,7 +54,7 @@ module _ (t : List ℕ) (n : ℕ) (q : Item) (words : questionAt t n ≡ itemWor
   not-final : eqb (wordOf t n kindAt) 0 ≡ false
   not-final = rw kind-at (kind-some (q .test))
 
-  undamaged : q .field < fieldCount → damaged t n ≡ false
+  pub undamaged : q .field < fieldCount → damaged t n ≡ false
   unfolding damaged
   undamaged inside = rw (kind-at, field-at, kind-known (q .test), kind-some (q .test), lt-leb fieldCount (q .field) inside)
 

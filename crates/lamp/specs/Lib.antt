@@ -1,0 +1,3 @@
+pub mod Lamp
+pub mod laws
+pub mod inner

@@ -1,0 +1,4 @@
+pub mod Ends
+pub mod Records
+pub mod Truths
+pub mod Turns
