@@ -1,6 +1,6 @@
 /*
- * Compiles three filters, classifies one frame with them, scans it by the list alone, and asks whether
- * any filter matches it. From the repository root, once the library is built:
+ * Compiles three filters, classifies one frame with them, scans it by the list alone, asks whether any
+ * filter matches it, and judges it. From the repository root, once the library is built:
  *
  *   gcc -Wall -Iinclude examples/box.c target/staticlib/libfilterbox.a -o box && ./box
  *
@@ -34,7 +34,14 @@ static const uint8_t frame[] = {
     8, 0, 0xf7, 0xfe, 0, 0, 0, 1,
 };
 
+/* Echo requests are diverted, what filters 1 and 2 match is dropped, all else passes. The other
+   filters, which the list lacks, need a verdict too: it is pass. */
+static const uint32_t verdicts[FILTERBOX_MOST_FILTERS] = {
+    FILTERBOX_DIVERT, FILTERBOX_DROP, FILTERBOX_DROP,
+};
+
 static uint32_t table[TABLE_WORDS];
+static uint32_t tallies[FILTERBOX_TALLIES];
 
 static const char *const ended[] = {"refused", "done", "stopped"};
 
@@ -64,5 +71,13 @@ int main(void) {
                                         table, TABLE_WORDS, built.number);
     printf("lamp: refusal %" PRIu32 ", lit %" PRIu32 ", asked %" PRIu32 "\n", lamp.refusal, lamp.lit,
            lamp.asked);
+    filterbox_clear(tallies, FILTERBOX_TALLIES);
+    FilterboxJudged judged =
+        filterbox_judge(frame, sizeof frame, 0, table, TABLE_WORDS, built.number, verdicts,
+                        FILTERBOX_MOST_FILTERS, FILTERBOX_PASS, tallies, FILTERBOX_TALLIES);
+    printf("judged: refusal %" PRIu32 ", verdict %" PRIu32 ", tallies %" PRIu32 " %" PRIu32
+           " %" PRIu32 ", unmatched %" PRIu32 "\n",
+           judged.refusal, judged.verdict, tallies[0], tallies[1], tallies[2],
+           tallies[FILTERBOX_TALLIES - 1]);
     return 0;
 }

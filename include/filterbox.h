@@ -1,6 +1,7 @@
 /*
  * filterbox: compiles a list of packet filters into a table, and walks frames through the table; or
- * scans a frame by the list alone; or says whether any filter matches at all.
+ * scans a frame by the list alone; or says whether any filter matches at all; or judges frames by the
+ * table and tallies what gave the verdicts.
  *
  * The library keeps nothing between calls and allocates nothing: all memory is lent by the caller,
  * who may call it from any thread. It never fails in any other way than by the refusal numbers
@@ -38,6 +39,12 @@ extern "C" {
 
 /* A set of filters: filter i is bit i. */
 typedef uint32_t FilterboxSet;
+
+/* The words of a tally room: one for each filter, and the last for frames that match none. */
+#define FILTERBOX_TALLIES (FILTERBOX_MOST_FILTERS + 1)
+
+/* The questions that judging may ask: the most tests that a list can have. */
+#define FILTERBOX_JUDGE_ALLOWANCE (FILTERBOX_MOST_FILTERS * FILTERBOX_MOST_TESTS)
 
 /* What building answers. */
 typedef struct FilterboxBuilt {
@@ -160,6 +167,46 @@ typedef struct FilterboxLamp {
 FilterboxLamp filterbox_lamp(const uint32_t *list, size_t list_len, const uint8_t *frame,
                              size_t frame_len, uint8_t port, const uint32_t *table,
                              size_t table_len, uint32_t states);
+
+/* The verdicts. */
+enum { FILTERBOX_PASS = 0, FILTERBOX_DROP = 1, FILTERBOX_DIVERT = 2 };
+
+/* What judging answers. */
+typedef struct FilterboxJudged {
+    uint32_t refusal; /* 0 where the frame was judged, else 12, 13, 15, 16 or 24 */
+    uint32_t verdict; /* FILTERBOX_PASS, FILTERBOX_DROP or FILTERBOX_DIVERT; 0 where refused */
+} FilterboxJudged;
+
+/*
+ * Judges a frame and counts it.
+ *
+ * frame, port, table, states: as for filterbox_classify; FILTERBOX_JUDGE_ALLOWANCE questions are
+ * allowed, so a table that was built never stops a walk.
+ * verdicts: the verdict of each filter, by its number; FILTERBOX_MOST_FILTERS words, also where the
+ * list has fewer.
+ * standing: the verdict of a frame that matches no filter.
+ * tallies: FILTERBOX_TALLIES words. Word i counts the frames to which filter i gave the verdict, the
+ * last word those that matched no filter. Clear them before the first frame.
+ *
+ * The verdict is that of the lowest-numbered filter in the frame's match set, or the standing one
+ * where the set is empty; the tally of the filter that gave it is one greater, and no other word
+ * changes. So the tallies add up to the number of frames judged since the last clearing. Or it
+ * answers the first of these refusals that fits, in this order; then no word changes:
+ *
+ *   24  tallies has not FILTERBOX_TALLIES words
+ *   16  verdicts has not FILTERBOX_MOST_FILTERS words, or one of them or standing is not 0, 1 or 2
+ *   12  the frame is longer than FILTERBOX_MOST_FRAME bytes
+ *   13  the table is damaged, as for filterbox_classify, or the walk is not done after the questions
+ *       that are allowed
+ *   15  the tally to be counted up is full: it is 4,294,967,295
+ */
+FilterboxJudged filterbox_judge(const uint8_t *frame, size_t frame_len, uint8_t port,
+                                const uint32_t *table, size_t table_len, uint32_t states,
+                                const uint32_t *verdicts, size_t verdicts_len, uint32_t standing,
+                                uint32_t *tallies, size_t tallies_len);
+
+/* Makes every word of tallies 0, whatever its length. */
+void filterbox_clear(uint32_t *tallies, size_t tallies_len);
 
 /* Answers the number of scratch words that building takes for each slot of the table. */
 uint32_t filterbox_scratch_words(void);

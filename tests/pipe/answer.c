@@ -22,7 +22,17 @@
 /* The calls' numbers; tests/src/pipe.rs has the same. The last two are no calls of the library.
    NOTHING is classifying that answers at once: what a call takes beside the library. OVERRUN writes
    beside its room, or reads there, to see that this is found. */
-enum { SCRATCH_WORDS = 1, BUILD = 2, CLASSIFY = 3, SCAN = 4, LAMP = 5, NOTHING = 254, OVERRUN = 255 };
+enum {
+    SCRATCH_WORDS = 1,
+    BUILD = 2,
+    CLASSIFY = 3,
+    SCAN = 4,
+    LAMP = 5,
+    JUDGE = 6,
+    CLEAR = 7,
+    NOTHING = 254,
+    OVERRUN = 255
+};
 
 /* Where the rooms of a call lie. */
 enum { MIDDLE = 0, FRONT = 1, BACK = 2 };
@@ -206,6 +216,17 @@ static void call(void) {
         answer[3] = lamp.asked;
         break;
     }
+    case JUDGE: {
+        FilterboxJudged judged =
+            filterbox_judge(room[0], head.bytes[0], (uint8_t)n[0], words(1), length(1), n[1],
+                            words(2), length(2), n[2], words(3), length(3));
+        answer[0] = judged.refusal;
+        answer[1] = judged.verdict;
+        break;
+    }
+    case CLEAR:
+        filterbox_clear(words(0), length(0));
+        break;
     case OVERRUN: {
         /* n[0] bytes behind the room's first byte, by wrapping also before it. */
         volatile unsigned char *at = room[0] + (int)n[0];

@@ -34,3 +34,4 @@ fn emulated() -> bool {
 
 pub const RANDOM_LISTS: Cases = Cases { name: "random lists", direct: 48_000, emulated: 8_000 };
 pub const RANDOM_TEXTS: Cases = Cases { name: "random texts", direct: 600, emulated: 200 };
+pub const GATEWAY_RUNS: Cases = Cases { name: "runs of a gateway", direct: 120, emulated: 12 };

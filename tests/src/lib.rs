@@ -13,6 +13,7 @@
 //! - `builder`: states, numbers, records, refusals 10 and 11, the words afterwards
 //! - `walker`: a frame's walk through a table's words, refusals 12 and 13
 //! - `lamp`: whether any filter matches, by a walk beside the frame's path
+//! - `gateway`: verdicts and tallies (document 02, P5)
 //! - `demands`: what the answers for one frame must be at every allowance
 //! - `program`: what the program `compile` prints for a text
 //! - `examples`: lists with known answers
@@ -33,6 +34,7 @@ pub mod examples;
 pub mod fields;
 pub mod frames;
 pub mod lamp;
+pub mod gateway;
 #[cfg(feature = "library")]
 pub mod library;
 pub mod lists;

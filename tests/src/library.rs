@@ -8,8 +8,10 @@ use std::env;
 use std::sync::OnceLock;
 
 use filterbox_sys as linked;
-use filterbox_sys::{Answer, Built, Lamp, Scanned};
+use filterbox_sys::{Answer, Built, Judged, Lamp, Scanned};
 
+use crate::frames::Frame;
+use crate::gateway::Setting;
 use crate::pages::{lent, shown};
 use crate::pipe::{self, Call, Place, Room, Words};
 
@@ -112,6 +114,42 @@ impl Library {
                 shown(self.place, table, |table| linked::lamp(list, frame, port, table, states))
             })
         })
+    }
+
+    /// Judges a frame and counts it in lent tallies.
+    pub fn judge(self, frame: &Frame, by: &Setting, tallies: &mut [u32]) -> Judged {
+        let Setting { table, states, verdicts, standing } = *by;
+        let Frame { bytes, port } = frame;
+        if self.piped {
+            let numbers = [u32::from(*port), states, standing];
+            let rooms = &mut [
+                Room::Bytes(bytes),
+                Room::Shown(table),
+                Room::Shown(verdicts),
+                Room::Lent(tallies),
+            ];
+            let [refusal, verdict, ..] = self.call(pipe::JUDGE, &numbers, rooms);
+            return Judged { refusal, verdict };
+        }
+        let call = |bytes: &[u8], table: &[u32], verdicts: &[u32], tallies: &mut [u32]| {
+            linked::judge(bytes, *port, table, states, verdicts, standing, tallies)
+        };
+        shown(self.place, bytes, |bytes| {
+            shown(self.place, table, |table| {
+                shown(self.place, verdicts, |verdicts| {
+                    lent(self.place, tallies, |tallies| call(bytes, table, verdicts, tallies))
+                })
+            })
+        })
+    }
+
+    /// Makes every tally 0.
+    pub fn clear(self, tallies: &mut [u32]) {
+        if self.piped {
+            self.call(pipe::CLEAR, &[], &mut [Room::Lent(tallies)]);
+            return;
+        }
+        lent(self.place, tallies, linked::clear)
     }
 
     /// The scratch words that a slot takes.

@@ -16,6 +16,8 @@ pub const BUILD: u32 = 2;
 pub const CLASSIFY: u32 = 3;
 pub const SCAN: u32 = 4;
 pub const LAMP: u32 = 5;
+pub const JUDGE: u32 = 6;
+pub const CLEAR: u32 = 7;
 /// No calls of the library: classifying that answers at once, by which instructions are counted, and
 /// touching a byte beside a room, to see that this is found.
 pub const NOTHING: u32 = 254;

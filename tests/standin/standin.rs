@@ -6,8 +6,8 @@ mod plain;
 #[path = "../../bench/src/scanner.rs"]
 mod scanner;
 
-use filterbox_sys::{Lamp, Scanned};
-use plain::{Answer, Built, WordByWord, MOST_FRAME, SLOT};
+use filterbox_sys::{Judged, Lamp, Scanned};
+use plain::{Answer, Built, WordByWord, MOST_FILTERS, MOST_FRAME, SLOT};
 use scanner::InTurn;
 use std::slice::{from_raw_parts, from_raw_parts_mut};
 
@@ -93,6 +93,53 @@ pub unsafe extern "C" fn filterbox_lamp(
     )
 }
 
+/// # Safety
+/// Each pointer must be good for as much as the length behind it says.
+#[no_mangle]
+pub unsafe extern "C" fn filterbox_judge(
+    frame: *const u8,
+    frame_len: usize,
+    port: u8,
+    table: *const u32,
+    table_len: usize,
+    states: u32,
+    verdicts: *const u32,
+    verdicts_len: usize,
+    standing: u32,
+    tallies: *mut u32,
+    tallies_len: usize,
+) -> Judged {
+    let (frame, table) = (from_raw_parts(frame, frame_len), from_raw_parts(table, table_len));
+    let verdicts = from_raw_parts(verdicts, verdicts_len);
+    let tallies = from_raw_parts_mut(tallies, tallies_len);
+    let refused = |refusal| Judged { refusal, verdict: 0 };
+    if tallies.len() != MOST_FILTERS + 1 {
+        return refused(24);
+    }
+    if verdicts.len() != MOST_FILTERS || standing > 2 || verdicts.iter().any(|&verdict| verdict > 2) {
+        return refused(16);
+    }
+    let answer = plain::classify(frame, port, table, states, 256);
+    match answer.ended {
+        0 => refused(answer.refusal),
+        1 => {
+            let tally = &mut tallies[answer.sure.trailing_zeros() as usize];
+            let Some(more) = tally.checked_add(1) else { return refused(15) };
+            *tally = more;
+            let place = answer.sure.trailing_zeros() as usize;
+            Judged { refusal: 0, verdict: verdicts.get(place).copied().unwrap_or(standing) }
+        }
+        _ => refused(13),
+    }
+}
+
+/// # Safety
+/// The pointer must be good for as many words as the length behind it says.
+#[no_mangle]
+pub unsafe extern "C" fn filterbox_clear(tallies: *mut u32, tallies_len: usize) {
+    from_raw_parts_mut(tallies, tallies_len).fill(0);
+}
+
 #[no_mangle]
 pub extern "C" fn filterbox_scratch_words() -> u32 {
     SLOT as u32
@@ -103,4 +150,6 @@ const _: filterbox_sys::types::filterbox_build = filterbox_build;
 const _: filterbox_sys::types::filterbox_classify = filterbox_classify;
 const _: filterbox_sys::types::filterbox_scan = filterbox_scan;
 const _: filterbox_sys::types::filterbox_lamp = filterbox_lamp;
+const _: filterbox_sys::types::filterbox_judge = filterbox_judge;
+const _: filterbox_sys::types::filterbox_clear = filterbox_clear;
 const _: filterbox_sys::types::filterbox_scratch_words = filterbox_scratch_words;

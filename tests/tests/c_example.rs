@@ -14,6 +14,7 @@ allowance 1: stopped, sure 1, out 2, asked 1
 allowance 2: done, sure 5, out 2, asked 2
 scanned: refusal 0, set 5
 lamp: refusal 0, lit 1, asked 1
+judged: refusal 0, verdict 2, tallies 1 0 0, unmatched 0
 ";
 
 /// Warnings count as errors: the header is read by other people's compilers.

@@ -4,7 +4,8 @@
 
 use filterbox_tests::builder::{self, Built, RECORD_WORDS};
 use filterbox_tests::examples::{empty_filters, ECHO};
-use filterbox_tests::frames::{echo_request, towards};
+use filterbox_tests::frames::{echo_request, towards, Frame};
+use filterbox_tests::gateway::{self, Setting};
 use filterbox_tests::lamp;
 use filterbox_tests::library::{library, Library};
 use filterbox_tests::lists::{faulty, list, style};
@@ -87,7 +88,24 @@ fn one_case(case: usize) {
             let walked = walker::classify(&frame.bytes, frame.port, &table, states, allowance);
             assert_eq!(over_the_pipe, walked, "{frame:?}");
         }
+        judge(place, &frame, &table, states, random.once_in(8));
     }
+}
+
+/// Judging by all three, then clearing.
+fn judge(place: Place, frame: &Frame, table: &[u32], states: u32, full: bool) {
+    let verdicts: Vec<u32> = (0..32).map(|i| i % 3).collect();
+    let by = Setting { table, states, verdicts: &verdicts, standing: 1 };
+    let mut should = vec![if full { u32::MAX } else { 5 }; 33];
+    let (mut far, mut here) = (should.clone(), should.clone());
+    let ask = |library: Library, tallies: &mut [u32]| library.at(place).judge(frame, &by, tallies);
+    let over_the_pipe = ask(Library::piped(), &mut far);
+    assert_eq!(over_the_pipe, ask(library(), &mut here), "{frame:?}");
+    assert_eq!(over_the_pipe, gateway::judge(frame, &by, &mut should), "{frame:?}");
+    assert!(far == here && far == should, "tallies of {frame:?}");
+    Library::piped().at(place).clear(&mut far);
+    library().at(place).clear(&mut here);
+    assert!(far == [0; 33] && here == [0; 33]);
 }
 
 fn lengths() {

@@ -1,9 +1,11 @@
--- The customer's demands 2 and 3, each as one statement with a name that proves it. Definitions are those of the lower crates, in document 01's order:
+-- The customer's demands 2 and 3, and what change requests add, each as one statement with a name that proves it. Definitions are those of the lower crates, in document 01's order:
 -- filtersOf a list's filters, matches the match set, statesOf a list's states, outcome what building answers and leaves, walk what classifying answers.
 --   l t s     the list's words, the table and the scratch that are lent to the build
 --   f p a     a frame's bytes, the box port and the allowance
 --   fs b      the list's filters, and what building it comes to
 --   w         the walk of the frame over what was built, at each allowance
+--   vs d ts   a gateway's verdict table, its standing verdict and its tallies
+--   j         the frame judged over what was built
 --   shownAt   what document 01 shows of a state that a walk ends in: done or stopped, its sure set, its out set, the questions asked
 use Prim.Native.Nat.{ℕ, _≤_, _<_}
 use mathlib.Core.Path.{_≡_}
@@ -15,7 +17,7 @@ use lib.ListN.{length}
 use Rattle.residue.specs.declared.Outcome.{Outcome}
 use Rattle.fields.specs.Fields.{field}
 use Rattle.sets.specs.Sets.{bit, member}
-use Rattle.lists.specs.Filters.{Item, Filter, filtersOf, testsIn}
+use Rattle.lists.specs.Filters.{maxFilters, Item, Filter, filtersOf, testsIn}
 use Rattle.lists.specs.Ranks.{matches, matchSet}
 use Rattle.lists.specs.Refusals.{listed}
 use Rattle.lists.specs.laws.Accepted.{accepted-well}
@@ -36,10 +38,14 @@ use Rattle.scanner.specs.Scan.{scanned}
 use Rattle.scanner.specs.declared.Scanned.the-variants.{Matched}
 use Rattle.lamp.specs.Lamp.{Numbers, numbersOf, asIs, lampEnds, lampOf}
 use Rattle.lamp.specs.laws.Truths.{lamp-shows, shows-lit, shows-asked}
+use Rattle.gateway.specs.Gateway.{tallyCount, verdictsFit, Judgement, countedAt, judged}
+use Rattle.gateway.specs.Events.{Event, sumOf, opened, bookOver}
+use Rattle.gateway.specs.laws.Events.{runs-add-up}
 use Rattle.builder.specs.Outcome.{refusalOf, numberOf, Left, scratchWords, outcome}
 use Rattle.labels.specs.Labels.{shownAt, Legal}
 use Rattle.labels.specs.laws.Truths.{legal-widths}
 use Rattle.demands.specs.laws.Builds.{build-full, build-fits}
+use Rattle.demands.specs.laws.Gateway.{verdict-first, verdict-standing}
 use Rattle.demands.specs.laws.Lamps.{damage-refused}
 use Rattle.demands.specs.laws.Settled.{exact, all-done, all-matches, all-scanned, all-lamps, open-so, sure-so, out-so, sure-kept, out-kept, none-left, asked-few}
 use Rattle.demands.specs.laws.Paths.{once}
@@ -67,6 +73,18 @@ module _ (l t s : List ℕ) where
     -- Change request P4: the lamp is not refused over what was built.
     pub lamp-built : numbersOf (lampOf l f p (b .table) (numberOf (b .answer))) .refusal ≡ 0
     lamp-built = all-lamps l t s built f p legal
+
+    -- Change request P5: with a tally room and verdicts that are not refused, the frame is counted and judged at the lowest-numbered filter
+    -- of its match set, or behind the filters where the set is empty. Only a full tally there refuses it.
+    module _ (vs : List ℕ) (d : ℕ) (ts : List ℕ) (room : length ts ≡ tallyCount) (fit : verdictsFit vs d ≡ true) where
+      abbrev j : Judgement
+      j = judged f p (b .table) (numberOf (b .answer)) vs d ts
+
+      pub gateway-first : (i : ℕ) → matches fs (field f p) i ≡ true → ((k : ℕ) → k < i → matches fs (field f p) k ≡ false) → j ≡ countedAt i vs d ts
+      gateway-first = verdict-first l t s built f p legal vs d ts room fit
+
+      pub gateway-standing : ((k : ℕ) → matches fs (field f p) k ≡ false) → j ≡ countedAt maxFilters vs d ts
+      gateway-standing = verdict-standing l t s built f p legal vs d ts room fit
 
     -- Demand 3: whatever the allowance, end, sets and count are those of the state that the residue rules reach by that many questions at most.
     pub demand-3-exact : (a : ℕ) → w a ≡ shownAt fs (run fs (field f p) a (start fs)) (askedIn fs (field f p) a (start fs))
@@ -134,3 +152,7 @@ module _ (l t s : List ℕ) where
     -- A damaged record is what document 01 gives for no state that outcomes reach, so the lamp refuses it.
     pub lamp-damage : (table : List ℕ) (i : ℕ) (os : List Outcome) → damaged table i ≡ true → asIs table i (questionOf (follow fs os (start fs))) ≡ false
     lamp-damage table i os = damage-refused table i (follow fs os (start fs)) (well-follow fs os (start fs) (well-start fs (accepted-well l n k accepted)))
+
+-- Change request P5: over any run of frames and clearings, from a clearing on, the tallies add up to the frames judged since the last clearing.
+pub gateway-adds-up : (es : List Event) (ts : List ℕ) → sumOf (bookOver es (opened ts) .tallies) ≡ bookOver es (opened ts) .frames
+gateway-adds-up = runs-add-up

@@ -1,7 +1,7 @@
 -- How tight the promises are (document 01, the section of that name): two outcomes that one promise allows are equal.
 use Prim.Native.Nat.{ℕ, zero, suc, _<_}
 use native.Mathlib.Omega.{arith}
-use mathlib.Core.Path.{_≡_, refl, sym, _∙_}
+use mathlib.Core.Path.{_≡_, refl, sym, ap, _∙_}
 use mathlib.Core.List.{List}
 use Rattle.fields.specs.Header.{Header}
 use Rattle.builder.specs.declared.Built.{Built}
@@ -9,9 +9,11 @@ use Rattle.builder.specs.Outcome as O
 use Rattle.builder.specs.Tight.{answered-one}
 use Rattle.matcher.specs.declared.Answer.{Answer}
 use Rattle.matcher.specs.Walk as W
+use Rattle.gateway.specs.declared.Judged.{Judged}
+use Rattle.gateway.specs.Gateway as G
 use Rattle.demands.specs.Whole.{Whole, Rooms}
 
--- An answer that equals a definition: `check`, `rank_sets`, `scan`, `light`, `read_field`, `residue_of` and all whose promise is one equation.
+-- An answer, or lent memory afterwards, that equals a definition: `check`, `rank_sets`, `scan`, `light`, `read_field`, `residue_of`, the gateway's `clear` and all whose promise is one equation.
 pub equation-tight : {A : Type 0} (d x y : A) → x ≡ d → y ≡ d → x ≡ y
 equation-tight d x y u v = u ∙ sym v
 
@@ -29,7 +31,11 @@ header-tight f p old vs ws x y u v = (u .set ∙ sym (v .set), u .words ∙ sym 
 pub classify-tight : (f : List ℕ) (p : ℕ) (t : List ℕ) (m a : ℕ) (x y : Answer) → x ≡ W.walk f p t m a → y ≡ W.walk f p t m a → x ≡ y
 classify-tight f p t m a x y u v = u ∙ sym v
 
--- Both as one.
+-- Judging: the answer, and every tally afterwards.
+pub judge-tight : (j : G.Judgement) (a b : Judged) (ta tb : List ℕ) → G.judgementOf a ta ≡ j → G.judgementOf b tb ≡ j → (a ≡ b) × (ta ≡ tb)
+judge-tight j a b ta tb x y = (ap (λ (k : G.Judgement). k .answer) (x ∙ sym y), ap (λ (k : G.Judgement). k .tallies) (x ∙ sym y))
+
+-- Building and classifying as one.
 pub build-and-classify-tight :
     (l t s f : List ℕ) (p a : ℕ) (x y : Answer) (tx ty sx sy : List ℕ) → Whole l t s f p a x → Rooms (O.outcome l t s) tx sx → Whole l t s f p a y →
     Rooms (O.outcome l t s) ty sy → (x ≡ y) × (tx ≡ ty) × (sx ≡ sy)

@@ -1,4 +1,5 @@
 pub mod Builds
+pub mod Gateway
 pub mod Labelled
 pub mod Lamps
 pub mod Paths

@@ -5,6 +5,8 @@
 --   lampWith n       the numbers of the lamp's answer
 --   builtWith b      the refusal's number or 0, the number of states or the filter's number, for each case of the enum Built
 --   Compiled         an answer and the words afterwards are those of an outcome of building
+--   verdictOf a      the refusal's number or 0, and the verdict, for each case of the enum Judged
+--   Tallied          an answer and the tallies afterwards are those of a judgement
 use mathlib.Core.Path.{_≡_}
 use Prim.Native.Nat.{ℕ}
 use mathlib.Core.List.{List}
@@ -15,12 +17,16 @@ use Rattle.matcher.specs.Walk.{found}
 use Rattle.scanner.specs.declared.Scanned.{Scanned}
 use Rattle.scanner.specs.declared.Scanned.the-variants as S
 use Rattle.lamp.specs.Lamp as L
+use Rattle.gateway.specs.Gateway as G
+use Rattle.gateway.specs.declared.Judged.{Judged}
+use Rattle.gateway.specs.declared.Judged.the-variants as J
 use Rattle.builder.specs.declared.Built.{Built}
 use Rattle.builder.specs.Outcome as B
 use Rattle.filterbox.specs.declared.FilterboxAnswer.{FilterboxAnswer}
 use Rattle.filterbox.specs.declared.FilterboxBuilt.{FilterboxBuilt}
 use Rattle.filterbox.specs.declared.FilterboxLamp.{FilterboxLamp}
 use Rattle.filterbox.specs.declared.FilterboxScanned.{FilterboxScanned}
+use Rattle.filterbox.specs.declared.FilterboxJudged.{FilterboxJudged}
 
 abbrev pub endedWith : ℕ → ℕ → Found → FilterboxAnswer
 endedWith e r x = record { ended = e; refusal = r; sure = x .sure; out = x .out; asked = x .asked }
@@ -46,3 +52,12 @@ pub record Compiled (l : B.Left) (b : FilterboxBuilt) (t s : List ℕ) : Type 0 
   pub answer : b ≡ builtWith (l .answer)
   pub table : t ≡ l .table
   pub scratch : s ≡ l .scratch
+
+-- A refusal has no verdict: 0 stands there.
+unfoldable pub verdictOf : Judged → FilterboxJudged
+verdictOf (J.Verdict v) = record { refusal = 0; verdict = v }
+verdictOf (J.Refused n) = record { refusal = n; verdict = 0 }
+
+pub record Tallied (j : G.Judgement) (r : FilterboxJudged) (ts : List ℕ) : Type 0 where
+  pub answer : r ≡ verdictOf (j .answer)
+  pub tallies : ts ≡ j .tallies

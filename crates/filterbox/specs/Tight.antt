@@ -7,12 +7,14 @@ use Rattle.matcher.specs.declared.Answer.{Answer}
 use Rattle.scanner.specs.declared.Scanned.{Scanned}
 use Rattle.lamp.specs.declared.Lamp.{Lamp}
 use Rattle.lamp.specs.Lamp.{numbersOf}
+use Rattle.gateway.specs.Gateway as G
 use Rattle.builder.specs.Outcome as B
-use Rattle.filterbox.specs.Numbers.{classified, matched, lampWith, Compiled}
+use Rattle.filterbox.specs.Numbers.{classified, matched, lampWith, Compiled, Tallied}
 use Rattle.filterbox.specs.declared.FilterboxAnswer.{FilterboxAnswer}
 use Rattle.filterbox.specs.declared.FilterboxBuilt.{FilterboxBuilt}
 use Rattle.filterbox.specs.declared.FilterboxLamp.{FilterboxLamp}
 use Rattle.filterbox.specs.declared.FilterboxScanned.{FilterboxScanned}
+use Rattle.filterbox.specs.declared.FilterboxJudged.{FilterboxJudged}
 
 -- filterbox_build: both numbers, and each word of the lent memory afterwards.
 pub filterbox-build-tight :
@@ -34,6 +36,14 @@ filterbox-scan-tight w a b x y = x ∙ sym y
 -- filterbox_lamp: the four numbers; it writes nothing.
 pub filterbox-lamp-tight : (w : Lamp) (a b : FilterboxLamp) → a ≡ lampWith (numbersOf w) → b ≡ lampWith (numbersOf w) → a ≡ b
 filterbox-lamp-tight w a b x y = x ∙ sym y
+
+-- filterbox_judge: both numbers, and every tally afterwards.
+pub filterbox-judge-tight : (j : G.Judgement) (a b : FilterboxJudged) (ta tb : List ℕ) → Tallied j a ta → Tallied j b tb → (a ≡ b) × (ta ≡ tb)
+filterbox-judge-tight j a b ta tb x y = (x .answer ∙ sym (y .answer), x .tallies ∙ sym (y .tallies))
+
+-- filterbox_clear: every tally afterwards.
+pub filterbox-clear-tight : (ts ta tb : List ℕ) → ta ≡ G.emptied ts → tb ≡ G.emptied ts → ta ≡ tb
+filterbox-clear-tight ts ta tb x y = x ∙ sym y
 
 -- filterbox_scratch_words.
 pub filterbox-scratch-words-tight : (a b : ℕ) → a ≡ slotWords → b ≡ slotWords → a ≡ b

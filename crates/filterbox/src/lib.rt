@@ -5,8 +5,10 @@ ghost use Rattle.builder.specs.Outcome.{outcome};
 ghost use Rattle.matcher.specs.Walk.{walk};
 ghost use Rattle.scanner.specs.Scan.{scanned};
 ghost use Rattle.lamp.specs.Lamp.{numbersOf, lampOf};
-ghost use Rattle.filterbox.specs.Numbers.{builtWith, Compiled, endedWith, classified, matched, lampWith};
+ghost use Rattle.gateway.specs.Gateway.{judged, emptied};
+ghost use Rattle.filterbox.specs.Numbers.{builtWith, Compiled, endedWith, classified, matched, lampWith, verdictOf, Tallied};
 use builder::Built;
+use gateway::Judged;
 use lamp::Lamp;
 use matcher::Answer;
 use matcher::Found;
@@ -189,4 +191,51 @@ pub extern "C" fn filterbox_lamp(
     ensures { λ r. ⌜ r ≡ lampWith (numbersOf (lampOf (now (list .entry)) (now (frame .entry)) port (now (table .entry)) states)) ⌝ }
 {
     lamp_of(lamp::light(list, frame, port, table, states))
+}
+
+// The refusal's number, 0 where the frame was judged; and the verdict, 0 where refused.
+#[repr(C)]
+pub struct FilterboxJudged {
+    pub refusal: u32,
+    pub verdict: u32,
+}
+
+fn judged_of(answer: Judged) -> FilterboxJudged
+    ensures { λ r. ⌜ r ≡ verdictOf answer ⌝ }
+{
+    match answer {
+        Judged::Verdict(verdict) => FilterboxJudged {
+            refusal: 0,
+            verdict,
+        },
+        Judged::Refused(number) => FilterboxJudged {
+            refusal: number,
+            verdict: 0,
+        },
+    }
+}
+
+// Judges a frame, which came in at a box port, by a table of so many states, a verdict for each filter and a standing one, and counts
+// it in the tallies.
+#[no_mangle]
+pub extern "C" fn filterbox_judge(
+    frame: &[u8],
+    port: u8,
+    table: &[u32],
+    states: u32,
+    verdicts: &[u32],
+    standing: u32,
+    tallies: &mut [u32],
+) -> FilterboxJudged
+    ensures { λ r. ⌜ Tallied (judged (now (frame .entry)) port (now (table .entry)) states (now (verdicts .entry)) standing (now (tallies .entry))) r (now (tallies .exit)) ⌝ }
+{
+    judged_of(gateway::judge(frame, port, table, states, verdicts, standing, tallies))
+}
+
+// Makes every tally 0.
+#[no_mangle]
+pub extern "C" fn filterbox_clear(tallies: &mut [u32])
+    ensures { λ _. ⌜ now (tallies .exit) ≡ emptied (now (tallies .entry)) ⌝ }
+{
+    gateway::clear(tallies);
 }

@@ -44,6 +44,14 @@ pub struct Lamp {
     pub asked: u32,
 }
 
+/// What judging answers.
+#[repr(C)]
+#[derive(Clone, Copy, PartialEq, Eq, Debug)]
+pub struct Judged {
+    pub refusal: u32,
+    pub verdict: u32,
+}
+
 /// Whether this program has the library's code in it; without it a call panics.
 pub const LINKED: bool = cfg!(linked);
 
@@ -92,6 +100,15 @@ calls! {
         frame: *const u8, frame_len: usize, port: u8,
         table: *const u32, table_len: usize, states: u32
     ) -> Lamp;
+
+    fn filterbox_judge(
+        frame: *const u8, frame_len: usize, port: u8,
+        table: *const u32, table_len: usize, states: u32,
+        verdicts: *const u32, verdicts_len: usize, standing: u32,
+        tallies: *mut u32, tallies_len: usize
+    ) -> Judged;
+
+    fn filterbox_clear(tallies: *mut u32, tallies_len: usize) -> ();
 
     fn filterbox_scratch_words() -> u32;
 }
@@ -152,6 +169,40 @@ pub fn lamp(list: &[u32], frame: &[u8], port: u8, table: &[u32], states: u32) ->
             states,
         )
     }
+}
+
+/// Judges a frame by a table and verdicts, and counts it in lent tallies.
+pub fn judge(
+    frame: &[u8],
+    port: u8,
+    table: &[u32],
+    states: u32,
+    verdicts: &[u32],
+    standing: u32,
+    tallies: &mut [u32],
+) -> Judged {
+    // SAFETY: as above; what is written comes from a slice lent for writing.
+    unsafe {
+        filterbox_judge(
+            frame.as_ptr(),
+            frame.len(),
+            port,
+            table.as_ptr(),
+            table.len(),
+            states,
+            verdicts.as_ptr(),
+            verdicts.len(),
+            standing,
+            tallies.as_mut_ptr(),
+            tallies.len(),
+        )
+    }
+}
+
+/// Makes every tally 0.
+pub fn clear(tallies: &mut [u32]) {
+    // SAFETY: as above.
+    unsafe { filterbox_clear(tallies.as_mut_ptr(), tallies.len()) }
 }
 
 /// The scratch words that a slot takes.

@@ -164,7 +164,7 @@ fn random_damaged(coverage: &mut Coverage) {
 }
 
 /// A record as nobody's builder would write it, mostly without damage.
-fn foreign_record(random: &mut Random, states: u32) -> [u32; RECORD_WORDS] {
+pub fn foreign_record(random: &mut Random, states: u32) -> [u32; RECORD_WORDS] {
     let kind = if random.once_in(20) { random.below(7) } else { random.between(1, 4) } as u32;
     let kind = if random.once_in(5) { 0 } else { kind };
     let damaged = usize::from(random.once_in(15));
@@ -184,7 +184,7 @@ fn foreign_record(random: &mut Random, states: u32) -> [u32; RECORD_WORDS] {
 }
 
 /// Frames whose fields are at or beside the values of a record's question, as far as that goes.
-fn frames_for(random: &mut Random, table: &[u32]) -> Vec<Frame> {
+pub fn frames_for(random: &mut Random, table: &[u32]) -> Vec<Frame> {
     let tests: Vec<Test> = table
         .chunks_exact(RECORD_WORDS)
         .filter(|record| (1..=4).contains(&record[0]) && record[1] < FIELDS as u32)

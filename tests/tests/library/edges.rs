@@ -3,8 +3,9 @@
 
 use filterbox_tests::builder::{self, records, RECORD_WORDS};
 use filterbox_tests::coverage::Coverage;
-use filterbox_tests::examples::{empty_filters, ECHO};
-use filterbox_tests::frames::{towards, Frame};
+use filterbox_tests::examples::{empty_filters, ECHO, ECHO_RECORDS};
+use filterbox_tests::frames::{echo_request, towards, Frame};
+use filterbox_tests::gateway::{self, Setting, DROP, PASS};
 use filterbox_tests::lamp;
 use filterbox_tests::library::library;
 use filterbox_tests::lists::{list, style};
@@ -25,6 +26,7 @@ pub fn run(runner: &mut Runner, coverage: &mut Coverage) {
     runner.check("classifying_stays_inside_and_only_reads", || classifying(coverage));
     runner.check("the_lamp_stays_inside_and_only_reads", lamps);
     runner.check("frames_of_each_length_are_read_inside", || each_length(coverage));
+    runner.check("judging_and_clearing_stay_inside_their_rooms", || gateways(coverage));
 }
 
 /// Builds in memory of exactly the lengths that are told, old words included.
@@ -101,6 +103,28 @@ fn lamps() {
                 let answer = library().at(end).lamp(&list, bytes, port, &table, states);
                 assert_eq!(answer, lamp::lamp(&list, &frame, &table, states), "{list:?} {frame:?}");
             }
+        }
+    }
+}
+
+/// Judging in memory of exactly these lengths; only the tallies can be written.
+fn gateways(coverage: &mut Coverage) {
+    let table = ECHO_RECORDS.concat();
+    let frame = echo_request(1);
+    for end in ENDS {
+        let at = library().at(end);
+        for (verdicts, room) in [(32, 33), (31, 33), (33, 33), (0, 33), (32, 32), (32, 34), (32, 0)]
+        {
+            let verdicts = vec![DROP; verdicts];
+            let by = Setting { table: &table, states: 10, verdicts: &verdicts, standing: PASS };
+            let mut tallies = vec![7; room];
+            let mut should = tallies.clone();
+            let judged = at.judge(&frame, &by, &mut tallies);
+            assert_eq!(judged, gateway::judge(&frame, &by, &mut should));
+            assert_eq!(tallies, should);
+            coverage.refusal(judged.refusal);
+            at.clear(&mut tallies);
+            assert_eq!(tallies, vec![0; room]);
         }
     }
 }

@@ -5,6 +5,7 @@
 mod damage;
 mod edges;
 mod faults;
+mod gateway;
 mod headers;
 mod lamp;
 mod numbers;
@@ -12,7 +13,7 @@ mod random_lists;
 mod rooms;
 mod support;
 
-use filterbox_tests::cases::RANDOM_LISTS;
+use filterbox_tests::cases::{GATEWAY_RUNS, RANDOM_LISTS};
 use filterbox_tests::coverage::Coverage;
 use filterbox_tests::library::library;
 use filterbox_tests::runner::Runner;
@@ -21,6 +22,7 @@ fn main() {
     let mut runner = Runner::new();
     println!("the library is {}", library().way());
     RANDOM_LISTS.tell();
+    GATEWAY_RUNS.tell();
     let mut coverage = Coverage::default();
     numbers::run(&mut runner, &mut coverage);
     faults::run(&mut runner, &mut coverage);
@@ -28,6 +30,7 @@ fn main() {
     damage::run(&mut runner, &mut coverage);
     lamp::run(&mut runner, &mut coverage);
     rooms::run(&mut runner, &mut coverage);
+    gateway::run(&mut runner, &mut coverage);
     random_lists::run(&mut runner, &mut coverage);
     // Last, since a call that leaves its memory ends the run here.
     edges::run(&mut runner, &mut coverage);
