@@ -15,6 +15,7 @@ DEMANDS = "crates/demands/specs/Demands.antt"
 STATEMENTS = (
     DEMANDS,
     "crates/demands/specs/Tight.antt",
+    "crates/demands/specs/Groups.antt",
     "crates/demands/specs/Cases.antt",
     "crates/machine/specs/Cases.antt",
     "crates/builder/specs/Tight.antt",

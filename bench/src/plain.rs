@@ -305,7 +305,8 @@ fn ranks(list: &[u32], filters: usize) -> [u32; MOST_FILTERS] {
     for a in 0..filters {
         for b in 0..filters {
             let (x, y) = (heads[a], heads[b]);
-            if x.0 == y.0 && (x.1 > y.1 || x.1 == y.1 && a < b) {
+            // In group 0 each filter is on its own.
+            if x.0 != 0 && x.0 == y.0 && (x.1 > y.1 || x.1 == y.1 && a < b) {
                 below[a] |= 1 << b;
             }
         }

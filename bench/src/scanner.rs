@@ -69,7 +69,9 @@ fn filters(list: &[u32]) -> Vec<Filter> {
 fn ranks(filters: &[Filter]) -> Vec<u32> {
     let above = |a: usize, b: usize| {
         let (x, y) = (&filters[a], &filters[b]);
-        x.group == y.group && (x.level > y.level || x.level == y.level && a < b)
+        // In group 0 each filter is on its own.
+        let compared = x.group == y.group && x.group != 0;
+        compared && (x.level > y.level || x.level == y.level && a < b)
     };
     (0..filters.len())
         .map(|i| (0..filters.len()).filter(|&j| above(j, i)).fold(0, |set, j| set | 1 << j))

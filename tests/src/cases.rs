@@ -32,6 +32,6 @@ fn emulated() -> bool {
     !same_code || env::var_os("FILTERBOX_EMULATOR").is_some_and(|word| !word.is_empty())
 }
 
-pub const RANDOM_LISTS: Cases = Cases { name: "random lists", direct: 48_000, emulated: 8_000 };
+pub const RANDOM_LISTS: Cases = Cases { name: "random lists", direct: 54_000, emulated: 9_000 };
 pub const RANDOM_TEXTS: Cases = Cases { name: "random texts", direct: 600, emulated: 200 };
 pub const GATEWAY_RUNS: Cases = Cases { name: "runs of a gateway", direct: 120, emulated: 12 };

@@ -1,10 +1,11 @@
 //! What a run has met. A number that stays zero means that the run did not try what it says.
 
-use crate::fields::{later_fragment, read, FIELDS, ICMP, NAMES, TCP, UDP};
+use crate::fields::{later_fragment, read, Readings, FIELDS, ICMP, NAMES, TCP, UDP};
 use crate::frames::{Frame, MORE_FRAGMENTS};
 use crate::lamp::Lamp;
 use crate::residue::{Outcome, OUTCOMES};
-use crate::rules::Test;
+use crate::rules::{above, Filter, Test, ON_ITS_OWN};
+use crate::scanner::filter_holds;
 use crate::walker::Answer;
 
 /// The refusal numbers of the library's calls: building, scanning, classifying, judging.
@@ -31,9 +32,38 @@ pub struct Coverage {
     /// Fragments with offset 0 and more to come, and those with another offset, by protocol.
     first_fragments: [u64; 3],
     pub later_fragments: [u64; 3],
+    /// Pairs of filters: one ranks above the other; both in group 0 at different levels; both in
+    /// group 0 at one level.
+    pub pairs: [u64; 3],
+    /// Filters that hold: beaten by another; in group 0 beside another that holds there.
+    pub holding: [u64; 2],
 }
 
 impl Coverage {
+    /// Counts the pairs of filters of a list.
+    pub fn pairs(&mut self, filters: &[Filter]) {
+        for b in 0..filters.len() {
+            for a in 0..b {
+                let (x, y) = (&filters[a], &filters[b]);
+                if above(filters, a, b) || above(filters, b, a) {
+                    self.pairs[0] += 1;
+                }
+                if x.group == ON_ITS_OWN && y.group == ON_ITS_OWN {
+                    self.pairs[if x.level == y.level { 2 } else { 1 }] += 1;
+                }
+            }
+        }
+    }
+
+    /// Counts the filters that hold of a frame whose match set is this.
+    pub fn holding(&mut self, filters: &[Filter], readings: &Readings, matches: u32) {
+        let holding = |i: &usize| filter_holds(&filters[*i], readings);
+        let all: Vec<usize> = (0..filters.len()).filter(holding).collect();
+        self.holding[0] += all.iter().filter(|&&i| matches >> i & 1 == 0).count() as u64;
+        let alone = all.iter().filter(|&&i| filters[i].group == ON_ITS_OWN).count() as u64;
+        self.holding[1] += if alone > 1 { alone } else { 0 };
+    }
+
     pub fn frame(&mut self, frame: &Frame) {
         self.frames += 1;
         let readings = read(&frame.bytes, frame.port);
@@ -108,6 +138,8 @@ impl Coverage {
         }
         line("first fragments: ICMP, TCP, UDP".to_string(), &self.first_fragments, &[]);
         line("later fragments: ICMP, TCP, UDP".to_string(), &self.later_fragments, &[]);
+        line("pairs: ranked; group 0: levels, one level".to_string(), &self.pairs, &[]);
+        line("holding: beaten, beside in group 0".to_string(), &self.holding, &[]);
         (lines.join("\n"), missing)
     }
 

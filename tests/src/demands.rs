@@ -81,6 +81,7 @@ pub fn check(
     let tell = |text: String| format!("{text}\n{}", describe(&words(filters), frame));
     check_path(filters, &points, matches).map_err(tell)?;
     coverage.frame(frame);
+    coverage.holding(filters, &readings, matches);
     for (question, outcome) in points.iter().filter_map(|point| point.asked) {
         coverage.question(&question, outcome);
     }

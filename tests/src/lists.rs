@@ -4,7 +4,8 @@
 use crate::fields::{full, FIELDS, WIDTHS};
 use crate::random::Random;
 use crate::rules::{
-    words, Filter, Test, AT_LEAST, AT_MOST, DIFFERS, EQUAL, FILTER_WORDS, MOST_FILTERS, TEST_WORDS,
+    words, Filter, Test, AT_LEAST, AT_MOST, DIFFERS, EQUAL, FILTER_WORDS, MOST_FILTERS, ON_ITS_OWN,
+    TEST_WORDS,
 };
 
 /// What a list is made of.
@@ -203,11 +204,35 @@ fn plan(random: &mut Random, style: Style) -> Plan {
     Plan { fields, filters, most_tests, masks_only: style == Style::Masks }
 }
 
-fn group_or_level(random: &mut Random, choices: usize) -> u32 {
+fn level(random: &mut Random, choices: usize) -> u32 {
     if random.once_in(50) {
         return random.pick(&[0, 254, 255]);
     }
     random.below(choices) as u32
+}
+
+/// The groups of a list: so many in which filters rank, and how often a filter is on its own, once
+/// in so many or never.
+struct Groups {
+    ranking: usize,
+    on_its_own: Option<usize>,
+}
+
+/// One list of nine has filters on their own; in half of these every filter is.
+fn groups(random: &mut Random) -> Groups {
+    let ranking = random.pick(&[1, 2, 3, 5, 8, 200]);
+    let on_its_own = random.once_in(9).then(|| random.pick(&[1, 2]));
+    Groups { ranking, on_its_own }
+}
+
+fn group(random: &mut Random, groups: &Groups) -> u32 {
+    if groups.on_its_own.is_some_and(|often| random.once_in(often)) {
+        return ON_ITS_OWN;
+    }
+    if random.once_in(50) {
+        return random.pick(&[1, 254, 255]);
+    }
+    1 + random.below(groups.ranking) as u32
 }
 
 /// A well-formed list.
@@ -219,12 +244,12 @@ pub fn list(random: &mut Random, style: Style) -> Vec<Filter> {
             pool(random, field)
         })
         .collect();
-    let groups = random.pick(&[1, 2, 3, 5, 8, 200]);
+    let groups = groups(random);
     let levels = random.between(1, 4);
     (0..plan.filters)
         .map(|_| {
-            let group = group_or_level(random, groups);
-            let level = group_or_level(random, levels);
+            let group = group(random, &groups);
+            let level = level(random, levels);
             let tests = tests(random, &pools, &plan);
             Filter { group, level, tests }
         })
@@ -313,7 +338,7 @@ pub fn faulty(random: &mut Random, style: Style) -> Vec<u32> {
 /// Appends filters without tests until there are about 32, to come near refusal 1.
 fn fill_up(random: &mut Random, list: &mut Vec<u32>) {
     for _ in 0..random.between(MOST_FILTERS - 8, MOST_FILTERS + 1) {
-        list.extend([random.below(3) as u32, random.below(3) as u32, 0]);
+        list.extend([1 + random.below(3) as u32, random.below(3) as u32, 0]);
     }
 }
 

@@ -1,5 +1,5 @@
 //! A run of words as a list of filters: tests, ranks, refusals 1 to 9
-//! (document 01, "Tests, filters, ranks" and "Refusal numbers").
+//! (document 01, "Tests, filters, ranks" and "Refusal numbers"; document 02, P6).
 
 pub use crate::sizes::{
     AT_LEAST, AT_MOST, DIFFERS, EQUAL, FILTER_WORDS, MOST_FILTERS, MOST_GROUP, MOST_TESTS,
@@ -7,6 +7,9 @@ pub use crate::sizes::{
 };
 
 use crate::fields::{full, FIELDS};
+
+/// The group whose filters rank above and below none.
+pub const ON_ITS_OWN: u32 = 0;
 
 /// A test in the order of its words.
 #[derive(Clone, Copy, PartialEq, Eq, Hash, Debug)]
@@ -51,6 +54,9 @@ impl Test {
 /// Whether filter a ranks above filter b.
 pub fn above(filters: &[Filter], a: usize, b: usize) -> bool {
     let (x, y) = (&filters[a], &filters[b]);
+    if x.group == ON_ITS_OWN || y.group == ON_ITS_OWN {
+        return false;
+    }
     x.group == y.group && (x.level > y.level || x.level == y.level && a < b)
 }
 

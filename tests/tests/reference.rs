@@ -398,6 +398,7 @@ fn scanner_residues_and_walk_agree_on_random_lists() {
     for case in 0..CASES {
         let random = &mut Random::case(SEED ^ 1, case as u64);
         let filters = lists::list(random, style(case, CASES));
+        coverage.pairs(&filters);
         let frames: Vec<Frame> = (0..10).map(|_| towards(random, &filters)).collect();
         walk_agrees(&filters, &frames, &mut coverage);
     }

@@ -5,3 +5,4 @@ pub mod Lamps
 pub mod Paths
 pub mod Settled
 pub mod Whole
+pub mod OldRanks

@@ -28,8 +28,9 @@ abbrev pub testsOf : List Filter → ℕ → List Item
 testsOf fs i = getD fs i noFilter .tests
 
 -- Filter i of group g and level l above filter j of group h and level m. In one group: the higher level, or the same level and the earlier place.
+-- In group 0 each filter is on its own (document 02, P6).
 unfoldable pub outranks : ℕ → ℕ → ℕ → ℕ → ℕ → ℕ → Bool
-outranks g l i h m j = eqb g h && (ltb m l || (eqb l m && ltb i j))
+outranks g l i h m j = not (eqb g 0) && eqb g h && (ltb m l || (eqb l m && ltb i j))
 
 unfoldable pub above : List Filter → ℕ → ℕ → Bool
 above fs i j = outranks (groupOf fs i) (levelOf fs i) i (groupOf fs j) (levelOf fs j) j

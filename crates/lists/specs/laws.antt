@@ -5,3 +5,4 @@ pub mod Accepted
 pub mod Ranking
 pub mod Columns
 pub mod Topmost
+pub mod Moved

@@ -234,13 +234,14 @@ pub fn heads(list: &[u32], groups: &mut [u32], levels: &mut [u32]) -> usize
     n
 }
 
-// Whether filter j ranks above filter i.
+// Whether filter j ranks above filter i: never in group 0, where each is on its own.
 pub fn ranks_above(groups: &[u32], levels: &[u32], j: usize, i: usize) -> bool
     ensures { λ r. ⌜ r ≡ outranks (getD (now (groups .entry)) j 0) (getD (now (levels .entry)) j 0) j (getD (now (groups .entry)) i 0) (getD (now (levels .entry)) i 0) i ⌝ }
 {
+    let group = word_at(groups, j);
     let upper = word_at(levels, j);
     let lower = word_at(levels, i);
-    (word_at(groups, j) == word_at(groups, i)) & ((lower < upper) | ((upper == lower) & (j < i)))
+    (group != 0) & (group == word_at(groups, i)) & ((lower < upper) | ((upper == lower) & (j < i)))
 }
 
 // The set of those among the first n filters that rank above filter i. n is at most 32, so each has its bit.

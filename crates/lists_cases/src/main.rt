@@ -142,12 +142,22 @@ fn show_sets(sets: &[u32], n: usize) {
     }
 }
 
-// Six filters without tests: three of group 1 with levels 2, 3, 2, two of group 0 with one level, one alone in its group.
-fn ranks() {
-    let list = [1u32, 2, 0, 0, 7, 0, 1, 3, 0, 1, 2, 0, 0, 7, 0, 9, 255, 0];
+fn show_ranks(list: &[u32], n: usize) {
     let mut sets = [0u32; lists::MAX_FILTERS];
-    lists::rank_sets(&list, &mut sets);
-    show_sets(&sets, 7);
+    lists::rank_sets(list, &mut sets);
+    show_sets(&sets, n);
+}
+
+// Six filters without tests: three of group 1 with levels 2, 3, 2, two of group 2 with one level, one alone in its group.
+fn ranks() {
+    let list = [1u32, 2, 0, 2, 7, 0, 1, 3, 0, 1, 2, 0, 2, 7, 0, 9, 255, 0];
+    show_ranks(&list, 7);
+}
+
+// Three filters of group 0, each on its own, with levels 7, 9, 7, and two of group 1 between them.
+fn on_their_own() {
+    let list = [0u32, 7, 0, 1, 7, 0, 0, 9, 0, 0, 7, 0, 1, 3, 0];
+    show_ranks(&list, 5);
 }
 
 fn main() {
@@ -158,4 +168,5 @@ fn main() {
     third_filter();
     long();
     ranks();
+    on_their_own();
 }

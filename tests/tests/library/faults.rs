@@ -78,7 +78,7 @@ fn sound_list(filters: usize, tests: usize) -> Vec<Filter> {
     let fields: Vec<u32> = (0..FIELDS as u32).filter(|&field| field != 6 && field != 7).collect();
     (0..filters)
         .map(|i| Filter {
-            group: (i % 3) as u32,
+            group: 1 + (i % 3) as u32,
             level: (i % 2) as u32,
             tests: (0..tests)
                 .map(|j| test([EQUAL, DIFFERS][(i + j) % 2], fields[(3 * i + j) % 12], 0x13, 0x11))

@@ -6,6 +6,7 @@ mod damage;
 mod edges;
 mod faults;
 mod gateway;
+mod groups;
 mod headers;
 mod lamp;
 mod numbers;
@@ -25,6 +26,7 @@ fn main() {
     GATEWAY_RUNS.tell();
     let mut coverage = Coverage::default();
     numbers::run(&mut runner, &mut coverage);
+    groups::run(&mut runner, &mut coverage);
     faults::run(&mut runner, &mut coverage);
     headers::run(&mut runner, &mut coverage);
     damage::run(&mut runner, &mut coverage);

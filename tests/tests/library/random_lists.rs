@@ -34,6 +34,7 @@ pub fn run(runner: &mut Runner, coverage: &mut Coverage) {
 fn one_case(case: usize, lists: usize, coverage: &mut Coverage) {
     let random = &mut Random::case(SEED, case as u64);
     let filters = list(random, style(case, lists));
+    coverage.pairs(&filters);
     let Some(built) = build_case(random, &filters, coverage) else { return };
     for _ in 0..FRAMES_A_LIST {
         let frame = towards(random, &filters);

@@ -2,6 +2,7 @@
 --   Top fs r m i k     filter k fires, is i or ranks above it, and none below number m that fires ranks above k
 --   topmost            where i fires there is such a k, for each m
 --   matches-fires, matches-top, top-matches   matching, taken apart and put together
+--   alone-matches      a filter of group 0 matches where it fires
 --   member-match       the match set by its members
 use Prim.Native.Nat.{ℕ, zero, suc, _<_}
 use mathlib.Core.Path.{_≡_, refl, ap, subst}
@@ -12,13 +13,13 @@ use native.Mathlib.Nat.{not-suc-le-zero, eq-or-lt-of-le, le-of-suc-le-suc}
 use lib.Dec.{ltb}
 use lib.ListN.{length}
 use borrow.Author.Tests.{ltb-true, not-true}
-use Rattle.residue.specs.laws.Choice.{never, both, first, second, by-test, clash}
+use Rattle.residue.specs.laws.Choice.{same-bool, never, both, first, second, by-test, clash}
 use Rattle.residue.specs.declared.Reading.{Reading}
 use Rattle.sets.specs.Sets.{some, member}
 use Rattle.sets.specs.laws.Members.{some-true, some-none, member-tally}
 use Rattle.lists.specs.Filters.{Filter}
-use Rattle.lists.specs.Ranks.{testsOf, above, allHold, fires, matches, matchSet}
-use Rattle.lists.specs.laws.Ranking.{above-irreflexive, above-transitive}
+use Rattle.lists.specs.Ranks.{groupOf, testsOf, above, allHold, fires, matches, matchSet}
+use Rattle.lists.specs.laws.Ranking.{alone-below, above-irreflexive, above-transitive}
 
 pub record Top (fs : List Filter) (r : ℕ → Reading) (m i k : ℕ) : Type 0 where
   pub fired : fires fs r k ≡ true
@@ -52,6 +53,10 @@ module _ (fs : List Filter) (r : ℕ → Reading) where
       (ap not
       (some-none (length fs) (λ j. above fs j i && fires fs r j)
       (λ j _. never (above fs j i && fires fs r j) (λ z. h j (first (above fs j i) (fires fs r j) z) (second (above fs j i) (fires fs r j) z)))))
+
+  pub alone-matches : (i : ℕ) → groupOf fs i ≡ 0 → matches fs r i ≡ fires fs r i
+  alone-matches i z =
+      same-bool (matches fs r i) (fires fs r i) (matches-fires i) (λ e. top-matches i e (λ j a _. clash (above fs j i) a (alone-below fs j i z)))
 
   pub member-match : (i : ℕ) → member i (matchSet fs r) ≡ (ltb i (length fs) && matches fs r i)
   unfolding matchSet

@@ -1,14 +1,11 @@
--- `lists_cases::ranks` is safe and ends: `rank_sets` leaves 32 sets, which are lent on.
+-- `lists_cases::show_ranks` is safe and ends: `rank_sets` leaves 32 sets, which are lent on.
 -- Assumes nothing.
 use mathlib.Core.Path.{sym, ap, _∙_}
 use lib.ListN.{length}
 use Rattle.lists.specs.laws.Ranking.{length-rankSets}
 use borrow.Author.Needs.{needs}
-use Rattle.lists_cases.proofs.ranks.Statement.{statement}
-use Rattle.lists_cases.proofs.ranks.Tie as tie
-
-slice-aggregate-rank-sets : tie.Need-slice-aggregate-rank-sets
-slice-aggregate-rank-sets c = search needs
+use Rattle.lists_cases.proofs.show_ranks.Statement.{statement}
+use Rattle.lists_cases.proofs.show_ranks.Tie as tie
 
 rank-sets-requires : tie.Need-rank-sets-requires
 rank-sets-requires c κs = search needs
@@ -22,11 +19,10 @@ show-sets-requires c κs = search needs
 returns : tie.Need-returns
 returns c = search needs
 
-pub ranks-spec : {M : Type 1} → statement M
-ranks-spec =
+pub show-ranks-spec : {M : Type 1} → statement M
+show-ranks-spec =
     tie.close
     (tie.spec
-    slice-aggregate-rank-sets
     rank-sets-requires
     slice-aggregate-show-sets
     show-sets-requires
