@@ -137,9 +137,8 @@ fn by_words(a: &[u32], b: &[u32]) -> bool {
 /// own, or its loop would have to share the registers of all that is inlined around it.
 #[inline(never)]
 fn agreeing(records: &[u32], from: usize, fresh: &[u32; RECORD]) -> Option<usize> {
-    let [kind, field, mask, value, _, _, _, sure, out] = *fresh;
     let agrees = |record: &[u32]| {
-        record[8] == out && record[7] == sure && record[..TEST] == [kind, field, mask, value]
+        record[OUT_AT] == fresh[OUT_AT] && record[SURE_AT] == fresh[SURE_AT] && record[..TEST] == fresh[..TEST]
     };
     Some(from + records[from * RECORD..].chunks_exact(RECORD).position(agrees)?)
 }
