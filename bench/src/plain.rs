@@ -620,7 +620,7 @@ pub fn lamp(list: &[u32], frame: &[u8], port: u8, table: &[u32], states: u32) ->
         Ok(filters) => filters,
         Err(built) => return refused(built.refusal, built.number),
     };
-    if frame.len() > 1522 {
+    if frame.len() > MOST_FRAME {
         return refused(12, 0);
     }
     if states == 0 || states as usize > (table.len() / RECORD).min(MOST_SLOTS) {
@@ -638,7 +638,7 @@ pub fn lamp(list: &[u32], frame: &[u8], port: u8, table: &[u32], states: u32) ->
     loop {
         walk.scratch.copy_from_slice(&walk.candidate);
         let record = &table[number as usize * RECORD..][..RECORD];
-        let question = walk.question(0);
+        let question = Builder::question(&walk.candidate[..walk.width()]);
         let held = walk.candidate[..walk.width()].chunks_exact(FILTER).any(|words| words[0] == 0);
         let as_is = question.map_or(record[0] == 0, |test| record[..TEST] == test.words());
         if !as_is {
