@@ -24,7 +24,7 @@ use std::hint::black_box;
 
 use filterbox_sys as library;
 use lists::{Packet, Random, FRAME};
-use plain::{AsSlices, Built, WordByWord, RECORD};
+use plain::{AsSlices, Built, FromTheBack, FromTheFront, RECORD};
 use scanner::{InTurn, Sorted};
 
 const FRAMES: usize = 16_384;
@@ -184,13 +184,26 @@ fn built_by_the_library(case: &Case) -> Vec<u32> {
 type Build = fn(&[u32], &mut [u32], &mut [u32]) -> Built;
 
 /// The library first, then the plain builders in the order of the printed columns.
-const BUILDERS: [Build; 3] = [library::build, plain::build::<WordByWord>, plain::build::<AsSlices>];
+const BUILDERS: [Build; 4] = [
+    library::build,
+    plain::build::<FromTheBack>,
+    plain::build::<AsSlices>,
+    plain::build::<FromTheFront>,
+];
 
 fn build_table() {
     println!("\nBuilding, ms and the library's ratio to the plain builders");
     println!(
-        "{:<26}{:>7}{:>10}{:>18}{:>7}{:>18}{:>7}",
-        "list", "states", "library", "plain, by words", "ratio", "plain, memcmp", "ratio"
+        "{:<26}{:>7}{:>10}{:>18}{:>7}{:>18}{:>7}{:>18}{:>7}",
+        "list",
+        "states",
+        "library",
+        "plain, same way",
+        "ratio",
+        "plain, memcmp",
+        "ratio",
+        "plain, before P3",
+        "ratio"
     );
     let lists = [
         ("6 one-bit tests", lists::one_bit_tests(6), 101),
@@ -203,7 +216,7 @@ fn build_table() {
         // Scratch as the call before left it, zero in the slots; the table with its old records.
         let mut table = vec![1; states * RECORD];
         let mut scratch = vec![1; states * library::scratch_words().max(plain::SLOT)];
-        let mut times = [const { Vec::new() }; 3];
+        let mut times = [const { Vec::new() }; BUILDERS.len()];
         let mut tables = Vec::new();
         for round in 0..rounds {
             for (build, times) in BUILDERS.iter().zip(&mut times) {
@@ -217,12 +230,12 @@ fn build_table() {
             }
         }
         assert!(tables.windows(2).all(|pair| pair[0] == pair[1]), "{name}: the same table");
-        let [ours, words, slices] = times.map(|mut rounds| median(&mut rounds));
-        println!(
-            "{name:<26}{states:>7}{ours:>10.3}{words:>18.3}{:>7.2}{slices:>18.3}{:>7.2}",
-            ours / words,
-            ours / slices
-        );
+        let [ours, plain @ ..] = times.map(|mut rounds| median(&mut rounds));
+        print!("{name:<26}{states:>7}{ours:>10.3}");
+        for plain in plain {
+            print!("{plain:>18.3}{:>7.2}", ours / plain);
+        }
+        println!();
     }
 }
 

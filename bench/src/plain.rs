@@ -1,6 +1,6 @@
 //! A plain Rust builder and walker with document 01's algorithm and memory layout: states as arrays
-//! of words in slots of the scratch, searched from the front up to the first difference. No proofs,
-//! no library types; what the proved builder's time is held against.
+//! of words in slots of the scratch, of which the record's words are compared before the slot's. No
+//! proofs, no library types; what the proved builder's time is held against.
 //!
 //! Bounds are tested as Rust tests them. Nothing is allocated.
 
@@ -71,39 +71,76 @@ impl Test {
     }
 }
 
-/// How two states are compared.
+/// How a candidate is compared with a stored state.
 pub trait Compare {
+    /// Whether its record is compared with the stored one first: the out set, the sure set, then the
+    /// question.
+    const RECORDS_FIRST: bool;
+
     fn same(a: &[u32], b: &[u32]) -> bool;
+}
+
+/// The proved builder's way: records first, then the filters from the last back, each word by word
+/// up to the first difference.
+pub struct FromTheBack;
+
+impl Compare for FromTheBack {
+    const RECORDS_FIRST: bool = true;
+
+    #[inline(always)]
+    fn same(a: &[u32], b: &[u32]) -> bool {
+        a.chunks_exact(FILTER).zip(b.chunks_exact(FILTER)).rev().all(|(x, y)| by_words(x, y))
+    }
+}
+
+/// The proved builder's way before document 02's P3: the slots alone, from the front.
+pub struct FromTheFront;
+
+impl Compare for FromTheFront {
+    const RECORDS_FIRST: bool = false;
+
+    #[inline(always)]
+    fn same(a: &[u32], b: &[u32]) -> bool {
+        by_words(a, b)
+    }
+}
+
+/// Records first, then slices, which the standard library hands to memcmp.
+pub struct AsSlices;
+
+impl Compare for AsSlices {
+    const RECORDS_FIRST: bool = true;
+
+    #[inline(always)]
+    fn same(a: &[u32], b: &[u32]) -> bool {
+        a == b
+    }
 }
 
 /// Word by word up to the first difference, written in eights. As one plain loop it runs up to 1.4
 /// times as long or not, as the compiler happens to inline it, and a slow yardstick flatters what is
 /// held against it.
-pub struct WordByWord;
-
-impl Compare for WordByWord {
-    #[inline(always)]
-    fn same(a: &[u32], b: &[u32]) -> bool {
-        let (mut eights, mut others) = (a.chunks_exact(8), b.chunks_exact(8));
-        for (x, y) in eights.by_ref().zip(others.by_ref()) {
-            for i in 0..8 {
-                if x[i] != y[i] {
-                    return false;
-                }
+#[inline(always)]
+fn by_words(a: &[u32], b: &[u32]) -> bool {
+    let (mut eights, mut others) = (a.chunks_exact(8), b.chunks_exact(8));
+    for (x, y) in eights.by_ref().zip(others.by_ref()) {
+        for i in 0..8 {
+            if x[i] != y[i] {
+                return false;
             }
         }
-        eights.remainder() == others.remainder()
     }
+    eights.remainder() == others.remainder()
 }
 
-/// As slices, which the standard library hands to memcmp.
-pub struct AsSlices;
-
-impl Compare for AsSlices {
-    #[inline(always)]
-    fn same(a: &[u32], b: &[u32]) -> bool {
-        a == b
-    }
+/// The first record from a number on with the question and the sets of a fresh one. A call of its
+/// own, or its loop would have to share the registers of all that is inlined around it.
+#[inline(never)]
+fn agreeing(records: &[u32], from: usize, fresh: &[u32; RECORD]) -> Option<usize> {
+    let agrees = |record: &[u32]| {
+        record[OUT_AT] == fresh[OUT_AT] && record[SURE_AT] == fresh[SURE_AT] && record[..TEST] == fresh[..TEST]
+    };
+    Some(from + records[from * RECORD..].chunks_exact(RECORD).position(agrees)?)
 }
 
 /// The refusal of a list's first fault and its filter, or the number of filters.
@@ -348,31 +385,43 @@ impl Builder<'_> {
     /// Looks for the candidate among the states met, and gives it the next number if it is new.
     fn meet<C: Compare>(&mut self) -> Result<(usize, bool), Full> {
         let width = self.width();
-        for n in 0..self.used {
+        let fresh = self.fresh();
+        let mut from = 0;
+        while let Some(n) = self.next::<C>(from, &fresh) {
             if C::same(&self.scratch[n * SLOT..][..width], &self.candidate[..width]) {
                 return Ok((n, false));
             }
+            from = n + 1;
         }
         if self.used == self.slots {
             return Err(Full);
         }
         let n = self.used;
         self.scratch[n * SLOT..][..width].copy_from_slice(&self.candidate[..width]);
+        self.table[n * RECORD..][..RECORD].copy_from_slice(&fresh);
         self.used += 1;
-        self.write_record(n);
         Ok((n, true))
     }
 
-    fn question(&self, n: usize) -> Option<Test> {
-        let state = &self.scratch[n * SLOT..][..self.width()];
+    /// The next state from a number on whose slot is to be compared.
+    fn next<C: Compare>(&self, from: usize, fresh: &[u32; RECORD]) -> Option<usize> {
+        if C::RECORDS_FIRST {
+            agreeing(&self.table[..self.used * RECORD], from, fresh)
+        } else {
+            (from < self.used).then_some(from)
+        }
+    }
+
+    fn question(state: &[u32]) -> Option<Test> {
         let asks = state.chunks_exact(FILTER).find(|filter| filter[0] != 0 && filter[0] != OUT)?;
         Some(Test::from(asks))
     }
 
-    fn write_record(&mut self, n: usize) {
+    /// The candidate's record, with no next states yet.
+    fn fresh(&self) -> [u32; RECORD] {
         let mut out = 0;
         let mut held = 0;
-        let state = &self.scratch[n * SLOT..][..self.width()];
+        let state = &self.candidate[..self.width()];
         for (i, filter) in state.chunks_exact(FILTER).enumerate() {
             match filter[0] {
                 OUT => out |= 1 << i,
@@ -386,18 +435,18 @@ impl Builder<'_> {
                 sure &= !self.below[i];
             }
         }
-        let question = self.question(n);
-        let record = &mut self.table[n * RECORD..][..RECORD];
-        record.fill(0);
-        if let Some(test) = question {
+        let mut record = [0; RECORD];
+        if let Some(test) = Self::question(state) {
             record[..TEST].copy_from_slice(&test.words());
         }
         record[SURE_AT] = sure;
         record[OUT_AT] = out;
+        record
     }
 
     fn state<C: Compare>(&mut self, n: usize) -> Result<(), Full> {
-        let Some(question) = self.question(n) else { return Ok(()) };
+        let state = &self.scratch[n * SLOT..][..self.width()];
+        let Some(question) = Self::question(state) else { return Ok(()) };
         for way in 0..3 {
             self.step(n, fact(question, way));
             let (next, new) = self.meet::<C>()?;
@@ -571,7 +620,7 @@ pub fn lamp(list: &[u32], frame: &[u8], port: u8, table: &[u32], states: u32) ->
         Ok(filters) => filters,
         Err(built) => return refused(built.refusal, built.number),
     };
-    if frame.len() > 1522 {
+    if frame.len() > MOST_FRAME {
         return refused(12, 0);
     }
     if states == 0 || states as usize > (table.len() / RECORD).min(MOST_SLOTS) {
@@ -589,7 +638,7 @@ pub fn lamp(list: &[u32], frame: &[u8], port: u8, table: &[u32], states: u32) ->
     loop {
         walk.scratch.copy_from_slice(&walk.candidate);
         let record = &table[number as usize * RECORD..][..RECORD];
-        let question = walk.question(0);
+        let question = Builder::question(&walk.candidate[..walk.width()]);
         let held = walk.candidate[..walk.width()].chunks_exact(FILTER).any(|words| words[0] == 0);
         let as_is = question.map_or(record[0] == 0, |test| record[..TEST] == test.words());
         if !as_is {

@@ -59,10 +59,21 @@ pub fn records(filters: &[Filter], slots: usize) -> Option<Vec<Record>> {
 
 /// The same with another pick of questions.
 pub fn records_by(filters: &[Filter], slots: usize, pick: Pick) -> Option<Vec<Record>> {
+    Some(states_by(filters, slots, pick)?.into_iter().map(|(_, record)| record).collect())
+}
+
+/// The records, each behind its state.
+pub fn states(filters: &[Filter], slots: usize) -> Option<Vec<(State, Record)>> {
+    states_by(filters, slots, question)
+}
+
+fn states_by(filters: &[Filter], slots: usize, pick: Pick) -> Option<Vec<(State, Record)>> {
     let numbers = HashMap::new();
     let mut building = Building { filters, slots, pick, numbers, records: Vec::new() };
     building.state(start(filters))?;
-    Some(building.records)
+    let mut states: Vec<(State, u32)> = building.numbers.into_iter().collect();
+    states.sort_by_key(|&(_, number)| number);
+    Some(states.into_iter().map(|(state, _)| state).zip(building.records).collect())
 }
 
 struct Building<'a> {

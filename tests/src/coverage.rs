@@ -1,11 +1,16 @@
 //! What a run has met. A number that stays zero means that the run did not try what it says.
 
+use std::collections::HashMap;
+use std::hash::Hash;
+
+use crate::builder::{Record, State};
 use crate::fields::{later_fragment, read, Readings, FIELDS, ICMP, NAMES, TCP, UDP};
 use crate::frames::{Frame, MORE_FRAGMENTS};
 use crate::lamp::Lamp;
 use crate::residue::{Outcome, OUTCOMES};
 use crate::rules::{above, Filter, Test, ON_ITS_OWN};
 use crate::scanner::filter_holds;
+use crate::sizes::{SURE_AT, TEST_WORDS};
 use crate::walker::Answer;
 
 /// The refusal numbers of the library's calls: building, scanning, classifying, judging.
@@ -37,6 +42,9 @@ pub struct Coverage {
     pub pairs: [u64; 3],
     /// Filters that hold: beaten by another; in group 0 beside another that holds there.
     pub holding: [u64; 2],
+    /// Pairs of states of one list that differ in the first filter alone and in the last alone, and
+    /// pairs that differ though their records ask the same question and have the same sets.
+    pub near: [u64; 3],
 }
 
 impl Coverage {
@@ -74,6 +82,16 @@ impl Coverage {
         } else if place & MORE_FRAGMENTS != 0 {
             self.first_fragments[i] += 1;
         }
+    }
+
+    /// Counts the states of a list of two filters or more that are hard to tell apart.
+    pub fn stored(&mut self, states: &[(State, Record)]) {
+        if states[0].0.len() < 2 {
+            return;
+        }
+        self.near[0] += pairs(states.iter().map(|(state, _)| &state[1..]));
+        self.near[1] += pairs(states.iter().map(|(state, _)| &state[..state.len() - 1]));
+        self.near[2] += pairs(states.iter().map(|(_, record)| (&record[..TEST_WORDS], &record[SURE_AT..])));
     }
 
     pub fn refusal(&mut self, refusal: u32) {
@@ -140,6 +158,7 @@ impl Coverage {
         line("later fragments: ICMP, TCP, UDP".to_string(), &self.later_fragments, &[]);
         line("pairs: ranked; group 0: levels, one level".to_string(), &self.pairs, &[]);
         line("holding: beaten, beside in group 0".to_string(), &self.holding, &[]);
+        line("states near: first, last, record".to_string(), &self.near, &[]);
         (lines.join("\n"), missing)
     }
 
@@ -152,6 +171,15 @@ impl Coverage {
         }
         sums
     }
+}
+
+/// How many pairs of keys are equal.
+fn pairs<K: Hash + Eq>(keys: impl Iterator<Item = K>) -> u64 {
+    let mut counts = HashMap::new();
+    for key in keys {
+        *counts.entry(key).or_insert(0) += 1;
+    }
+    counts.values().map(|&count: &u64| count * (count - 1) / 2).sum()
 }
 
 fn columns(counts: &[u64]) -> String {

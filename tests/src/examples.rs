@@ -27,6 +27,12 @@ pub const WITHOUT_PLACES: [u32; 33] = [
     19, 2, 13, 35, 35,
 ];
 
+/// Two states of this list ask the same question, have the same sets and differ in the last filter
+/// alone: the first filter is out by its second test or by its first, and what is known of its first
+/// test leaves one test more of the second filter or not.
+pub const EQUAL_RECORDS: [u32; 22] =
+    [1, 0, 2, 1, 6, 1, 1, 1, 7, 1, 1, 2, 0, 2, 1, 5, 255, 6, 2, 6, 3, 3];
+
 /// A masked or a range test.
 pub fn test(kind: u32, field: u32, mask: u32, value: u32) -> Test {
     Test { kind, field, mask, value }

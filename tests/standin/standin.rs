@@ -7,7 +7,7 @@ mod plain;
 mod scanner;
 
 use filterbox_sys::{Judged, Lamp, Scanned};
-use plain::{Answer, Built, WordByWord, MOST_FILTERS, MOST_FRAME, SLOT};
+use plain::{Answer, Built, FromTheBack, MOST_FILTERS, MOST_FRAME, SLOT};
 use scanner::InTurn;
 use std::slice::{from_raw_parts, from_raw_parts_mut};
 
@@ -22,7 +22,7 @@ pub unsafe extern "C" fn filterbox_build(
     scratch: *mut u32,
     scratch_len: usize,
 ) -> Built {
-    plain::build::<WordByWord>(
+    plain::build::<FromTheBack>(
         from_raw_parts(list, list_len),
         from_raw_parts_mut(table, table_len),
         from_raw_parts_mut(scratch, scratch_len),

@@ -399,6 +399,9 @@ fn scanner_residues_and_walk_agree_on_random_lists() {
         let random = &mut Random::case(SEED ^ 1, case as u64);
         let filters = lists::list(random, style(case, CASES));
         coverage.pairs(&filters);
+        if let Some(states) = filterbox_tests::builder::states(&filters, MOST_SLOTS) {
+            coverage.stored(&states);
+        }
         let frames: Vec<Frame> = (0..10).map(|_| towards(random, &filters)).collect();
         walk_agrees(&filters, &frames, &mut coverage);
     }

@@ -5,3 +5,4 @@ pub mod Places
 pub mod Reaching
 pub mod Records
 pub mod Visited
+pub mod Telling

@@ -1,4 +1,4 @@
--- Looking for a state among the first states of the slots: the first that is the same decides, and longer lists of states agree.
+-- Looking for a state among the first states of the slots: a state whose record does not agree is another, the first that is the same decides, and longer lists of states agree.
 -- Assumes nothing.
 use Prim.Native.Nat.{ℕ, zero, suc, _+_, _*_, _-_, _≤_, _<_}
 use mathlib.Core.Path.{_≡_, refl, sym, ap, _∙_, subst}
@@ -10,14 +10,21 @@ use native.Mathlib.Omega.{arith}
 use lib.Dec.{eqb}
 use lib.ListN.{length, take, drop, getD}
 use Rattle.sets.specs.Sets.{tally}
-use Rattle.sets.specs.laws.Members.{tally-more}
+use Rattle.sets.specs.laws.Members.{tally-more, getD-tally, length-tally}
+use Rattle.tables.specs.inner.Records.{agree, freshBy, recordAt, agreeingFrom}
+use Rattle.tables.specs.laws.Agreeing.{agreeing-in, agreeing-over}
+use Rattle.tables.specs.declared.Fresh.{Fresh}
 use Rattle.slots.specs.Words.{filterSlot, slotWords}
 use Rattle.slots.specs.inner.Slots.{sameWords, questionIn, asksIn}
+use Rattle.slots.specs.laws.Written.{same-words-eq}
 use Rattle.machine.specs.inner.Slots.{slotsIn}
 use Rattle.automaton.specs.Machines.{Machine, meets, placeOf}
+use Rattle.automaton.specs.inner.Placing.{Told, freshOf}
+use Rattle.automaton.specs.laws.Telling.{told-at}
 use Rattle.automaton.specs.laws.Lists.{Begins, begins-refl, begins-append, begins-trans}
 use Rattle.automaton.specs.laws.Places.{meets-append, place-begins}
-use Rattle.builder.specs.inner.Memory.{slotAt, statesIn, soughtIn}
+use Rattle.builder.specs.inner.Memory.{slotAt, statesIn, recordsAt, memoryOf, soughtIn}
+use Rattle.builder.specs.inner.Promises.{Shows, Search}
 use Rattle.builder.specs.laws.WaysPlaced.{length-states}
 use Rattle.builder.specs.declared.Sought.the-variants as F
 
@@ -35,6 +42,29 @@ pub asked-is : (n i : ℕ) (s : List ℕ) (kind field mask value : ℕ)
 unfolding asksIn
 asked-is n i s kind field mask value e =
     ap (λ (ws : List ℕ). not (eqb (getD ws 0 0) 0)) (e ∙ ap (λ (w : List ℕ). questionIn n w) (slot-part n i s))
+
+-- ---- records first
+
+-- Equal states have equal questions and sets, and each record has its state's.
+pub shown : (n used : ℕ) (ranks t s c : List ℕ) (f : Fresh) → Told (slotsIn n ranks) (memoryOf n ranks used t s) → freshBy f ≡ freshOf (slotsIn n ranks) c
+    → (i : ℕ) → i < used → Shows n i t s c f
+unfolding memoryOf statesIn recordsAt
+shown n used ranks t s c f told is i h e =
+    let M = slotsIn n ranks in
+    let met : List (List ℕ) = tally used (λ k. slotAt n s k) in
+    let records : List (List ℕ) = tally used (λ k. recordAt t k) in
+    let state : getD met i [] ≡ c = getD-tally used (λ k. slotAt n s k) [] i h ∙ same-words-eq (slotAt n s i) c e in
+    ap (λ (r : List ℕ). agree r (freshBy f)) (sym (getD-tally used (λ k. recordAt t k) [] i h))
+    ∙ ap (λ (w : List ℕ). agree (getD records i []) w) (is ∙ ap (λ (x : List ℕ). freshOf M x) (sym state))
+    ∙ told-at M met records i [] told (subst (λ (m : ℕ). i < m) (sym (length-tally used (λ k. slotAt n s k))) h)
+
+-- A record that does not agree: the state is another.
+other-record : (n i : ℕ) (t s c : List ℕ) (f : Fresh) → Shows n i t s c f → agree (recordAt t i) (freshBy f) ≡ false → false ≡ sameWords (slotAt n s i) c
+other-record n i t s c f shows e = go (sameWords (slotAt n s i) c) (λ q. shows q)
+  where
+    go : (b : Bool) → (b ≡ true → agree (recordAt t i) (freshBy f) ≡ true) → false ≡ b
+    go true k = absurd (false≢true (sym e ∙ k refl))
+    go false k = refl
 
 -- ---- one state more
 
@@ -98,6 +128,31 @@ meets-next n i s c ranks none =
 
 pub unmet-more : (n i : ℕ) (s c : List ℕ) → Unmet n i s c → false ≡ sameWords (slotAt n s i) c → Unmet n (i + 1) s c
 unmet-more n i s c none e ranks = meets-next n i s c ranks none ∙ sym e
+
+-- The states passed over, whose records do not agree, are none of them the candidate.
+unmet-over : (n i k : ℕ) (s c : List ℕ) → ((j : ℕ) → i ≤ j → j < i + k → false ≡ sameWords (slotAt n s j) c) → Unmet n i s c → Unmet n (i + k) s c
+unmet-over n i zero s c other none = subst (λ (m : ℕ). Unmet n m s c) (sym (add-zero i)) none
+unmet-over n i (suc k) s c other none =
+    let next : i + k + 1 ≡ i + suc k = omega arith in
+    subst (λ (m : ℕ). Unmet n m s c) next
+    (unmet-more n (i + k) s c (unmet-over n i k s c (λ j low high. other j low (omega arith)) none) (other (i + k) (omega arith) (omega arith)))
+
+pub later-next : (used : ℕ) (t f : List ℕ) (i r : ℕ) → r ≡ agreeingFrom (used - i) i t f → i ≤ r
+later-next used t f i r is = let low = agreeing-in t f (used - i) i .0 in omega arith
+
+pub unmet-next : (n used : ℕ) (t s c : List ℕ) (f : Fresh) → Search n used t s c f → (i r : ℕ) → i ≤ used → Unmet n i s c → r ≡ agreeingFrom (used - i) i t (freshBy f)
+    → (r ≤ used) × Unmet n r s c
+unmet-next n used t s c f asked i r h none is =
+    let low = agreeing-in t (freshBy f) (used - i) i .0 in
+    let high = agreeing-in t (freshBy f) (used - i) i .1 in
+    let whole : i + (r - i) ≡ r = omega arith in (
+      omega arith,
+      subst (λ (m : ℕ). Unmet n m s c) whole
+          (unmet-over n i (r - i) s c
+          (λ (j : ℕ) (from : i ≤ j) (to : j < i + (r - i)).
+          other-record n j t s c f (asked .shows j (omega arith)) (agreeing-over t (freshBy f) (used - i) i j from (subst (λ (m : ℕ). j < m) (whole ∙ is) to)))
+          none),
+    )
 
 pub found-at : (n i used : ℕ) (s c : List ℕ) → i < used → Unmet n i s c → true ≡ sameWords (slotAt n s i) c
     → (ranks : List ℕ) → F.At i ≡ soughtIn n ranks (statesIn n used s) c

@@ -10,11 +10,14 @@ use lib.ListN.{length, take, drop, length-append, length-drop}
 use lib.Seq.{take-at, length-take-le}
 use Rattle.residue.specs.declared.Outcome.{Outcome}
 use Rattle.lists.specs.Filters.{itemOf}
+use Rattle.tables.specs.inner.Records.{freshBy}
+use Rattle.tables.specs.declared.Fresh.{Fresh}
 use Rattle.slots.specs.Words.{filterSlot, slotWords}
 use Rattle.slots.specs.inner.Slots.{questionIn, stepQuestion, stepWords}
-use Rattle.slots.specs.inner.Steps.{Stepped}
+use Rattle.slots.specs.inner.Steps.{Ranked, Stepped}
 use Rattle.machine.specs.inner.Slots.{slotsIn}
 use Rattle.automaton.specs.Machines.{meets, placeOf}
+use Rattle.automaton.specs.inner.Placing.{freshOf}
 use Rattle.automaton.specs.laws.Places.{place-below}
 use Rattle.builder.specs.inner.Memory.{slotAt, statesIn, soughtIn}
 use Rattle.builder.specs.laws.WaysPlaced.{length-states}
@@ -22,7 +25,7 @@ use Rattle.builder.specs.inner.Promises.{Ready, Search, Store, Stored, M
 use Rattle.builder.specs.declared.Sought.{Sought}
 use Rattle.builder.specs.declared.Sought.the-variants as F
 use Rattle.builder.specs.declared.Met.the-variants as M
-use Rattle.builder.proofs.Finding.{slot-part}
+use Rattle.builder.proofs.Finding.{slot-part, shown}
 
 -- ---- a step by the state's own question
 
@@ -79,17 +82,23 @@ module _ (n slots : ℕ) (ranks : List ℕ) (at used : ℕ) (t s : List ℕ) whe
       }
 
   module _ (ready : Ready n slots ranks at used t s) (c : List ℕ) (whole : length c ≡ filterSlot * n) where
-    pub search-asks : Search n used s c
-    search-asks =
-        let within = ready .within in
-        let scratched = ready .scratched in
-        record { filters = ready .filters; slotted = omega arith; whole = whole }
+    pub fresh-asks : Ranked n ranks c
+    fresh-asks =
+        let few = ready .filters in
+        let ranked = ready .ranked in
+        record { few = few; whole = whole; ranked = omega arith }
 
-    pub store-asks : (used ≡ slots → ⊥) → Store n slots ranks used t s c
+    pub search-asks : (f : Fresh) → freshBy f ≡ freshOf (slotsIn n ranks) c → Search n used t s c f
+    search-asks f is =
+        let within = ready .within in
+        let tabled = ready .tabled in
+        let scratched = ready .scratched in
+        record { filters = ready .filters; tabled = omega arith; slotted = omega arith; whole = whole; shows = shown n used ranks t s c f (ready .told) is }
+
+    pub store-asks : (used ≡ slots → ⊥) → Store n slots used t s c
     store-asks ne =
         record {
           filters = ready .filters;
-          ranked = ready .ranked;
           below = slot-left slots used (ready .within) ne;
           few = ready .few;
           tabled = ready .tabled;

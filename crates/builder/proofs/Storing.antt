@@ -8,7 +8,8 @@ use borrow.Rule.Slice.PartMut.{midOf, putMid}
 use lib.ListN.{length, take, drop}
 use Rattle.words.specs.laws.Lending.{later, put-before, put-there, put-behind}
 use Rattle.tables.specs.Tables.{recordWords}
-use Rattle.tables.specs.inner.Records.{freshRecord, recordAt}
+use Rattle.tables.specs.inner.Records.{freshRecord, freshBy, recordAt}
+use Rattle.tables.specs.declared.Fresh.{Fresh}
 use Rattle.tables.specs.laws.Layout.{record-long}
 use Rattle.slots.specs.Words.{filterSlot, slotWords}
 use Rattle.slots.specs.inner.Slots.{questionIn, sureSetIn, outSetIn}
@@ -19,12 +20,11 @@ use Rattle.builder.specs.inner.Memory.{slotAt, statesIn, recordsAt, memo
 use Rattle.builder.specs.laws.Memory.{states-more, records-more}
 use Rattle.builder.specs.inner.Promises.{Store, Stored}
 
--- The record that is written is the candidate's.
-pub fresh-is : (n : ℕ) (ranks c : List ℕ) (kind field mask value sure out : ℕ)
-    → kind ∷ field ∷ mask ∷ value ∷ [] ≡ questionIn n c → sure ≡ sureSetIn n ranks c → out ≡ outSetIn n c
-    → freshRecord (kind ∷ field ∷ mask ∷ value ∷ []) sure out ≡ freshOf (slotsIn n ranks) c
-unfolding freshOf
-fresh-is n ranks c kind field mask value sure out q s o = rw (q, s, o)
+-- The record that the code makes is the candidate's.
+pub fresh-is : (n : ℕ) (ranks c : List ℕ) (f : Fresh) → f .kind ∷ f .field ∷ f .mask ∷ f .value ∷ [] ≡ questionIn n c → f .sure ≡ sureSetIn n ranks c → f .out ≡ outSetIn n c
+    → freshBy f ≡ freshOf (slotsIn n ranks) c
+unfolding freshBy freshOf
+fresh-is n ranks c f q s o = rw (q, s, o)
 
 fresh-long : (n : ℕ) (ranks c : List ℕ) → length (freshOf (slotsIn n ranks) c) ≡ recordWords
 unfolding freshOf freshRecord
@@ -52,7 +52,7 @@ unfolding recordAt
 record-there used t w q long room f = put-there (recordWords * used) recordWords t w q long room f
 
 -- The candidate is copied into a lent tail of the slots, its record into one of the table.
-pub stored-both : (n slots : ℕ) (ranks : List ℕ) (used : ℕ) (t s c p q fresh : List ℕ) → Store n slots ranks used t s c
+pub stored-both : (n slots : ℕ) (ranks : List ℕ) (used : ℕ) (t s c p q fresh : List ℕ) → Store n slots used t s c
     → p ≡ c ++ drop (length c) (midOf (slotWords * used) (length s - slotWords * used) s)
     → q ≡ fresh ++ drop recordWords (midOf (recordWords * used) (length t - recordWords * used) t) → fresh ≡ freshOf (slotsIn n ranks) c
     → Stored n slots ranks used t s c (putMid (recordWords * used) (length t - recordWords * used) t q) (putMid (slotWords * used) (length s - slotWords * used) s p)

@@ -4,60 +4,83 @@ use crate::Sought;
 use residue::Outcome;
 use slots::FILTER_WORDS;
 use slots::SLOT_WORDS;
+use tables::Fresh;
 use tables::RECORD_WORDS;
 ghost use mathlib.Core.Path.{_≡_};
 ghost use mathlib.Core.List.{List};
 ghost use Prim.Native.Nat.{ℕ, _*_, _≤_};
 ghost use lib.ListN.{length};
+ghost use Rattle.tables.specs.inner.Records.{freshBy};
 ghost use Rattle.slots.specs.Words.{filterSlot};
 ghost use Rattle.slots.specs.inner.Slots.{stepWords, asksIn};
-ghost use Rattle.slots.specs.inner.Steps.{Stepped};
+ghost use Rattle.slots.specs.inner.Steps.{Ranked, Stepped};
+ghost use Rattle.automaton.specs.inner.Placing.{freshOf};
+ghost use Rattle.machine.specs.inner.Slots.{slotsIn};
 ghost use Rattle.builder.specs.inner.Memory.{slotAt, statesIn, soughtIn};
 ghost use Rattle.builder.specs.inner.Promises.{Ready, Held, Search, Store, Stored, Meeting};
 
-// Where the candidate stands among the states of the slots used, if it does.
-fn find(scratch: &[u32], n: usize, used: usize, candidate: &[u32]) -> Sought
-    requires { ⌜ Search n used (now scratch) (now candidate) ⌝ }
+// The record of a state, with no next numbers yet.
+pub fn fresh_of(state: &[u32], n: usize, ranks: &[u32]) -> Fresh
+    requires { ⌜ Ranked n (now ranks) (now state) ⌝ }
+    ensures { λ r. ⌜ freshBy r ≡ freshOf (slotsIn n (now (ranks .entry))) (now (state .entry)) ⌝ }
+{
+    let asked = slots::question_of(state, n);
+    let sure = slots::sure_set(state, n, ranks);
+    let out = slots::out_set(state, n);
+    Fresh {
+        kind: asked.kind,
+        field: asked.field,
+        mask: asked.mask,
+        value: asked.value,
+        sure,
+        out,
+    }
+}
+
+// Where the candidate stands among the states of the slots used, if it does; fresh is its record. A state whose record has another question or other sets is another: its slot is not looked at.
+fn find(
+    table: &[u32],
+    scratch: &[u32],
+    n: usize,
+    used: usize,
+    candidate: &[u32],
+    fresh: Fresh,
+) -> Sought
+    requires { ⌜ Search n used (now table) (now scratch) (now candidate) fresh ⌝ }
     ensures { λ r. ⌜ ((ranks : List ℕ) → r ≡ soughtIn n ranks (statesIn n used (now (scratch .entry))) (now (candidate .entry))) ⌝ }
 {
     let width = FILTER_WORDS * n;
     let mut i: usize = 0;
     while i < used {
-        let at = SLOT_WORDS * i;
-        if slots::same(&scratch[at..at + width], candidate) {
-            return Sought::At(i);
+        let next = tables::agreeing(table, i, used, fresh);
+        if used <= next {
+            return Sought::Nothing;
         }
-        i += 1;
+        let at = SLOT_WORDS * next;
+        let state = &scratch[at..at + width];
+        if slots::same(state, candidate) {
+            return Sought::At(next);
+        }
+        i = next + 1;
     }
     Sought::Nothing
 }
 
 // Stores the candidate in the next slot, and its record behind those already placed.
 pub fn store(
-    ranks: &[u32],
     n: usize,
     slots: usize,
     table: &mut [u32],
     scratch: &mut [u32],
     candidate: &[u32],
+    fresh: Fresh,
     used: usize,
 )
-    requires { ⌜ Store n slots (now ranks) used (now table) (now scratch) (now candidate) ⌝ }
-    ensures { λ _. ⌜ Stored n slots (now (ranks .entry)) used (now (table .entry)) (now (scratch .entry)) (now (candidate .entry)) (now (table .exit)) (now (scratch .exit)) ⌝ }
+    requires { ⌜ Store n slots used (now table) (now scratch) (now candidate) ⌝ }
+    ensures { λ _. ⌜ ((ranks : List ℕ) → freshBy fresh ≡ freshOf (slotsIn n ranks) (now (candidate .entry)) → Stored n slots ranks used (now (table .entry)) (now (scratch .entry)) (now (candidate .entry)) (now (table .exit)) (now (scratch .exit))) ⌝ }
 {
     words::copy_into(&mut scratch[SLOT_WORDS * used..], candidate);
-    let asked = slots::question_of(candidate, n);
-    let sure = slots::sure_set(candidate, n, ranks);
-    let out = slots::out_set(candidate, n);
-    tables::write_fresh(
-        &mut table[RECORD_WORDS * used..],
-        asked.kind,
-        asked.field,
-        asked.mask,
-        asked.value,
-        sure,
-        out,
-    );
+    tables::write_fresh(&mut table[RECORD_WORDS * used..], fresh);
 }
 
 // The state after a state's own question came to an outcome.
@@ -96,13 +119,14 @@ pub fn meet(
         o,
     );
     let candidate = &words[..width];
-    match find(scratch, n, used, candidate) {
+    let fresh = fresh_of(candidate, n, ranks);
+    match find(table, scratch, n, used, candidate, fresh) {
         Sought::At(number) => Met::Old(number),
         Sought::Nothing => {
             if used == slots {
                 return Met::Slotless;
             }
-            store(ranks, n, slots, table, scratch, candidate, used);
+            store(n, slots, table, scratch, candidate, fresh, used);
             Met::New
         }
     }

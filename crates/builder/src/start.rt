@@ -1,5 +1,6 @@
 // The start of a list is placed as state 0, and from it every state that follows.
 use crate::Extent;
+use crate::meet::fresh_of;
 use crate::meet::store;
 use crate::place::place_state;
 use slots::FILTER_WORDS;
@@ -25,6 +26,8 @@ pub fn place_start(
     let width = FILTER_WORDS * n;
     let mut words = [0u32; SLOT_WORDS];
     slots::start_into(list, &mut words[..width], n, ranks);
-    store(ranks, n, slots, table, scratch, &words[..width], 0);
+    let start = &words[..width];
+    let fresh = fresh_of(start, n, ranks);
+    store(n, slots, table, scratch, start, fresh, 0);
     place_state(ranks, n, slots, table, scratch, &mut words, 0, 1)
 }

@@ -3,7 +3,7 @@
 ghost use mathlib.Core.Path.{_≡_};
 ghost use mathlib.Core.Bool.{cond};
 ghost use mathlib.Core.List.{_∷_, [], map};
-ghost use Prim.Native.Nat.{_*_, _≤_};
+ghost use Prim.Native.Nat.{_*_, _-_, _≤_};
 ghost use lib.ListN.{length};
 ghost use Rattle.lists.specs.Filters.{filtersOf, itemOf};
 ghost use Rattle.states.specs.States.{allLeft};
@@ -175,17 +175,44 @@ pub fn step_by(
     close(dst, n, ranks);
 }
 
-// The same words; the first that differ decide.
+// The same words. It looks at all of them: a loop that can't be left early is compiled to compare several at a time.
+fn same_words(a: &[u32], b: &[u32]) -> bool
+    requires { ⌜ length (now a) ≡ length (now b) ⌝ }
+    ensures { λ r. ⌜ r ≡ sameWords (now (a .entry)) (now (b .entry)) ⌝ }
+{
+    let mut same = true;
+    let mut at: usize = 0;
+    while at < a.len() {
+        same = same & (a[at] == b[at]);
+        at += 1;
+    }
+    same
+}
+
+// Where the filter begins whose words end at a place.
+fn filter_before(end: usize) -> usize
+    ensures { λ r. ⌜ r ≡ end - filterSlot ⌝ }
+{
+    if end < FILTER_WORDS {
+        0
+    } else {
+        end - FILTER_WORDS
+    }
+}
+
+// The same words, from the last filter back: stored states mostly differ near the end of the list.
 pub fn same(a: &[u32], b: &[u32]) -> bool
     requires { ⌜ length (now a) ≡ length (now b) ⌝ }
     ensures { λ r. ⌜ r ≡ sameWords (now (a .entry)) (now (b .entry)) ⌝ }
 {
-    let mut at: usize = 0;
-    while at < a.len() {
-        if a[at] != b[at] {
+    let mut passed: usize = 0;
+    while passed < a.len() {
+        let end = a.len() - passed;
+        let at = filter_before(end);
+        if !same_words(&a[at..end], &b[at..end]) {
             return false;
         }
-        at += 1;
+        passed += FILTER_WORDS;
     }
     true
 }

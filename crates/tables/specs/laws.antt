@@ -1,3 +1,4 @@
 pub mod Least
 pub mod Layout
 pub mod Changes
+pub mod Agreeing

@@ -12,6 +12,7 @@ mod lamp;
 mod numbers;
 mod random_lists;
 mod rooms;
+mod stored;
 mod support;
 
 use filterbox_tests::cases::{GATEWAY_RUNS, RANDOM_LISTS};
@@ -33,6 +34,7 @@ fn main() {
     lamp::run(&mut runner, &mut coverage);
     rooms::run(&mut runner, &mut coverage);
     gateway::run(&mut runner, &mut coverage);
+    stored::run(&mut runner, &mut coverage);
     random_lists::run(&mut runner, &mut coverage);
     // Last, since a call that leaves its memory ends the run here.
     edges::run(&mut runner, &mut coverage);

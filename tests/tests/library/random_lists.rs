@@ -1,6 +1,6 @@
 //! Random lists and frames: every word of the build, and every frame at every allowance.
 
-use filterbox_tests::builder::{records, RECORD_WORDS};
+use filterbox_tests::builder::{states, RECORD_WORDS};
 use filterbox_tests::cases::RANDOM_LISTS;
 use filterbox_tests::coverage::Coverage;
 use filterbox_tests::frames::towards;
@@ -48,11 +48,13 @@ fn build_case(random: &mut Random, filters: &[Filter], coverage: &mut Coverage) 
     let list = words(filters);
     let slot_words = library().scratch_words();
     let room = |slots: usize, odd: usize| (slots * RECORD_WORDS + odd, slots * slot_words);
-    let Some(states) = records(filters, SLOTS).map(|records| records.len()) else {
+    let Some(states) = states(filters, SLOTS) else {
         let (table, scratch) = room(random.between(SLOTS - 50, SLOTS), random.below(RECORD_WORDS));
         assert_eq!(build(&list, table, scratch, coverage).built.refusal, 11);
         return None;
     };
+    coverage.stored(&states);
+    let states = states.len();
     if random.once_in(3) {
         let (table, scratch) = room(states - 1, random.below(RECORD_WORDS));
         assert_eq!(build(&list, table, scratch, coverage).built.refusal, 11);

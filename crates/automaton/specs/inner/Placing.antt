@@ -3,7 +3,9 @@
 --   Placement        the memory afterwards, all states in slots, or slotless: a new state found none
 --   placeState       builds the three ways of the state stored at a place, with n slots in all; f is more than the questions that can follow
 --   placeWay         builds one way: its state is met, built if it is new, and its number put into the record
+--   Told M m         each record of the memory has the question and the sets of its state
 use Prim.Native.Nat.{ℕ, zero, suc}
+use mathlib.Core.Path.{_≡_}
 use mathlib.Core.Bool.{true, false}
 use mathlib.Core.List.{List, [], _∷_, _++_}
 use lib.Dec.{leb}
@@ -11,7 +13,7 @@ use lib.ListN.{length, getD, set}
 use Rattle.residue.specs.declared.Outcome.{Outcome}
 use Rattle.residue.specs.declared.Outcome.the-variants.{Holds, Fails, Absent}
 use Rattle.tables.specs.Tables.{nextAt}
-use Rattle.tables.specs.inner.Records.{freshRecord}
+use Rattle.tables.specs.inner.Records.{freshRecord, agree}
 use Rattle.automaton.specs.Machines.{Machine, meets, placeOf}
 
 pub record Memory (M : Machine) : Type 0 where
@@ -63,3 +65,13 @@ unfoldable pub placeAll : (M : Machine) → ℕ → ℕ → M .State → Placeme
 placeAll M slots f s =
     elim (leb slots 0)
     [ true ↦ slotless | false ↦ placeState M slots f 0 s (stored M s (record { met = []; records = [] })) ]
+
+-- Whatever its next numbers are by now: as many records as states, and each agrees with the fresh record of its state.
+unfoldable pub ToldIn : (M : Machine) → List (M .State) → List (List ℕ) → Type 0
+ToldIn M [] [] = Unit {0}
+ToldIn M [] (r ∷ records) = ⊥
+ToldIn M (s ∷ met) [] = ⊥
+ToldIn M (s ∷ met) (r ∷ records) = (agree r (freshOf M s) ≡ true) × ToldIn M met records
+
+abbrev pub Told : (M : Machine) → Memory M → Type 0
+Told M m = ToldIn M (m .met) (m .records)

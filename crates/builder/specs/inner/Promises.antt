@@ -1,5 +1,6 @@
 -- What the functions that place states ask and promise, in words.
---   Ready       the sizes that placing asks; Held, Search, Store what the functions below it ask
+--   Ready       the sizes that placing asks, and that the records tell of their states; Held, Search, Store what the functions below it ask
+--   Shows       a slot's record has the question and the sets of the candidate, where its state is the candidate
 --   Stored      what storing a state and its record leaves
 --   Grown       the slots used grow, and stay within the slots there are
 --   AfterKept   the table's words after the last record stay
@@ -14,13 +15,15 @@ use mathlib.Core.List.{List}
 use lib.ListN.{length, take, drop}
 use Rattle.lists.specs.Filters.{maxFilters}
 use Rattle.tables.specs.Tables.{recordWords, maxSlots}
+use Rattle.tables.specs.inner.Records.{agree, freshBy, recordAt}
+use Rattle.tables.specs.declared.Fresh.{Fresh}
 use Rattle.residue.specs.declared.Outcome.{Outcome}
 use Rattle.slots.specs.Words.{filterSlot, slotWords}
-use Rattle.slots.specs.inner.Slots.{asksIn}
+use Rattle.slots.specs.inner.Slots.{asksIn, sameWords}
 use Rattle.machine.specs.inner.Slots.{slotsIn}
 use Rattle.machine.specs.inner.Remaining.{GoodWords, testsLeft}
 use Rattle.automaton.specs.Machines.{meets, placeOf}
-use Rattle.automaton.specs.inner.Placing.{Placement, stored, placeWay, placeState}
+use Rattle.automaton.specs.inner.Placing.{Placement, Told, stored, placeWay, placeState}
 use Rattle.builder.specs.inner.Memory.{slotAt, memoryOf, statesIn, outOf}
 use Rattle.builder.specs.declared.Extent.{Extent}
 use Rattle.builder.specs.declared.Extent.the-variants as R
@@ -35,6 +38,7 @@ pub record Ready (n slots : ℕ) (ranks : List ℕ) (at used : ℕ) (t s : List 
   pub few : slots ≤ maxSlots
   pub tabled : recordWords * slots ≤ length t
   pub scratched : slotWords * slots ≤ length s
+  pub told : Told (slotsIn n ranks) (memoryOf n ranks used t s)
 
 -- A state lies in slot `at`.
 pub record Held (n at : ℕ) (s : List ℕ) : Type 0 where
@@ -46,16 +50,21 @@ pub record Asking (n : ℕ) (ranks w : List ℕ) : Type 0 where
   pub good : GoodWords n ranks w
   pub asks : asksIn n w ≡ true
 
+-- The candidate c with the fresh record f, and slot `at`.
+abbrev pub Shows : (n at : ℕ) (t s c : List ℕ) → Fresh → Type 0
+Shows n at t s c f = sameWords (slotAt n s at) c ≡ true → agree (recordAt t at) (freshBy f) ≡ true
+
 -- The slots used are searched for a candidate.
-pub record Search (n used : ℕ) (s c : List ℕ) : Type 0 where
+pub record Search (n used : ℕ) (t s c : List ℕ) (f : Fresh) : Type 0 where
   pub filters : n ≤ maxFilters
+  pub tabled : recordWords * used ≤ length t
   pub slotted : slotWords * used ≤ length s
   pub whole : length c ≡ filterSlot * n
+  pub shows : (i : ℕ) → i < used → Shows n i t s c f
 
 -- A candidate finds a slot.
-pub record Store (n slots : ℕ) (ranks : List ℕ) (used : ℕ) (t s c : List ℕ) : Type 0 where
+pub record Store (n slots used : ℕ) (t s c : List ℕ) : Type 0 where
   pub filters : n ≤ maxFilters
-  pub ranked : length ranks ≡ maxFilters
   pub below : used < slots
   pub few : slots ≤ maxSlots
   pub tabled : recordWords * slots ≤ length t

@@ -15,7 +15,8 @@ use Rattle.machine.specs.inner.Slots.{slotsIn}
 use Rattle.machine.specs.laws.Carried.{whole, list-placed}
 use Rattle.machine.specs.inner.Remaining.{GoodWords, testsLeft, words-start, left-start}
 use Rattle.automaton.specs.Machines.{Machine}
-use Rattle.automaton.specs.inner.Placing.{Memory, Placement, slotless, stored, placeState, placeAll}
+use Rattle.automaton.specs.inner.Placing.{Memory, Placement, Told, slotless, stored, placeState, placeAll}
+use Rattle.automaton.specs.laws.Telling.{told-none, told-stored}
 use Rattle.builder.specs.inner.Memory.{slotAt, statesIn, recordsAt, memoryOf, outOf}
 use Rattle.builder.specs.inner.Promises.{Stored, StatePlaced, Grown, AfterKept}
 use Rattle.builder.specs.inner.Started.{Startable, Started}
@@ -58,6 +59,11 @@ module _ (n slots : ℕ) (ranks l t s : List ℕ) (able : Startable n slots rank
     memory-is : memoryOf n ranks 1 t₁ s₁ ≡ stored (slotsIn n ranks) begin (record { met = []; records = [] })
     unfolding memoryOf statesIn recordsAt tally
     memory-is = kept .memory
+
+    pub told-begin : Told (slotsIn n ranks) (memoryOf n ranks 1 t₁ s₁)
+    told-begin =
+        subst (λ (m : Memory (slotsIn n ranks)). Told (slotsIn n ranks) m) (sym memory-is)
+        (told-stored (slotsIn n ranks) begin (record { met = []; records = [] }) (told-none (slotsIn n ranks)))
 
     -- The start's ways may be built.
     pub good-begin : GoodWords n ranks (slotAt n s₁ 0)

@@ -19,7 +19,8 @@ use Rattle.slots.specs.inner.Slots.{stepWords, asksIn}
 use Rattle.machine.specs.inner.Slots.{slotsIn}
 use Rattle.machine.specs.inner.Remaining.{GoodWords, testsLeft, words-step, words-fall}
 use Rattle.automaton.specs.Machines.{meets, placeOf}
-use Rattle.automaton.specs.inner.Placing.{Memory, Placement, slotless, slotted, stored, linked, andThen, placeWay, placeState}
+use Rattle.automaton.specs.inner.Placing.{Memory, Placement, Told, slotless, slotted, stored, linked, andThen, placeWay, placeState}
+use Rattle.automaton.specs.laws.Telling.{ToldBy, told-stored, told-way, told-state}
 use Rattle.automaton.specs.laws.MetPlaced.{way-old, way-unslotted, way-new, state-final, state-slotless, state-slotted-slotless, state-slotted}
 use Rattle.builder.specs.inner.Memory.{slotAt, statesIn, memoryOf, outOf}
 use Rattle.builder.specs.laws.Memory.{slot-kept, records-linked}
@@ -123,6 +124,7 @@ module _ (n slots : ℕ) (ranks : List ℕ) (at used : ℕ) (o : Outcome) (t s :
           few = ready .few;
           tabled = subst (λ (k : ℕ). recordWords * slots ≤ k) (sym lt) (ready .tabled);
           scratched = subst (λ (k : ℕ). slotWords * slots ≤ k) (sym ls) (ready .scratched);
+          told = subst (λ (m : Memory (slotsIn n ranks)). Told (slotsIn n ranks) m) (sym (meeting .2)) (told-stored (slotsIn n ranks) stepped (memoryOf n ranks used t s) (ready .told));
         }
 
     pub good-new : GoodWords n ranks (slotAt n s₁ used)
@@ -226,8 +228,9 @@ module _ (n slots : ℕ) (ranks : List ℕ) (at used : ℕ) (t s : List ℕ) (re
   ways left = placeState (slotsIn n ranks) slots left at (slotAt n s at) (memoryOf n ranks used t s)
 
   -- What is ready stays so with more slots used.
-  ready-on : (u : ℕ) (t' s' : List ℕ) → used ≤ u → u ≤ slots → length t' ≡ length t → length s' ≡ length s → Ready n slots ranks at u t' s'
-  ready-on u t' s' more fits lt ls =
+  ready-on : (u : ℕ) (t' s' : List ℕ) → used ≤ u → u ≤ slots → length t' ≡ length t → length s' ≡ length s → Told (slotsIn n ranks) (memoryOf n ranks u t' s')
+      → Ready n slots ranks at u t' s'
+  ready-on u t' s' more fits lt ls told =
       let inside = ready .inside in
       record {
         filters = ready .filters;
@@ -237,6 +240,7 @@ module _ (n slots : ℕ) (ranks : List ℕ) (at used : ℕ) (t s : List ℕ) (re
         few = ready .few;
         tabled = subst (λ (k : ℕ). recordWords * slots ≤ k) (sym lt) (ready .tabled);
         scratched = subst (λ (k : ℕ). slotWords * slots ≤ k) (sym ls) (ready .scratched);
+        told = told;
       }
 
   pub none-asked : asksIn n (slotAt n s at) ≡ false → StateLeaves (R.Used used) t s
@@ -270,6 +274,15 @@ module _ (n slots : ℕ) (ranks : List ℕ) (at used : ℕ) (t s : List ℕ) (re
         b .comes left (subst (λ (w : List ℕ). testsLeft n w ≤ left + 1) (sym e) h)
         ∙ ap (λ (w : List ℕ). placeWay (slotsIn n ranks) slots (placeState (slotsIn n ranks) slots left) o at w (memoryOf n ranks u t' s')) e
 
+    -- The records still tell of their states after a way, since those that the theory places do.
+    told-on : (o : Outcome) (u u' : ℕ) (t' s' t'' s'' : List ℕ) → slotAt n s' at ≡ slotAt n s at → Told (slotsIn n ranks) (memoryOf n ranks u t' s')
+        → Way o u t' s' (R.Used u') t'' s'' → Told (slotsIn n ranks) (memoryOf n ranks u' t'' s'')
+    unfolding outOf
+    told-on o u u' t' s' t'' s'' e told b =
+        let left : ℕ = testsLeft n (slotAt n s at) in
+        subst (λ (p : Placement (slotsIn n ranks)). ToldBy (slotsIn n ranks) p) (sym (came o u t' s' (R.Used u') t'' s'' e b left (omega arith)))
+        (told-way (slotsIn n ranks) slots (placeState (slotsIn n ranks) slots left) (told-state (slotsIn n ranks) slots left) o at (slotAt n s at) (memoryOf n ranks u t' s') told)
+
     pub first-slotless : (r : Extent) (t₁ s₁ : List ℕ) → r ≡ R.Slotless → Way O.Holds used t s r t₁ s₁ → StateLeaves R.Slotless t₁ s₁
     unfolding outOf
     first-slotless r t₁ s₁ e a₀ =
@@ -287,8 +300,11 @@ module _ (n slots : ℕ) (ranks : List ℕ) (at used : ℕ) (t s : List ℕ) (re
       a : Way O.Holds used t s (R.Used u₁) t₁ s₁
       a = subst (λ (x : Extent). Way O.Holds used t s x t₁ s₁) e₁ a₀
 
+      told-second : Told (slotsIn n ranks) (memoryOf n ranks u₁ t₁ s₁)
+      told-second = told-on O.Holds used u₁ t s t₁ s₁ refl (ready .told) a
+
       pub ready-second : length t₁ ≡ length t → length s₁ ≡ length s → Ready n slots ranks at u₁ t₁ s₁
-      ready-second lt ls = ready-on u₁ t₁ s₁ (a .grows .0) (a .grows .1) lt ls
+      ready-second lt ls = ready-on u₁ t₁ s₁ (a .grows .0) (a .grows .1) lt ls told-second
 
       pub slot-first : slotAt n s₁ at ≡ slotAt n s at
       slot-first = slot-kept n used at s s₁ (ready .filters) (ready .inside) (a .kept)
@@ -321,7 +337,7 @@ module _ (n slots : ℕ) (ranks : List ℕ) (at used : ℕ) (t s : List ℕ) (re
         ready-third lt ls =
             let one = a .grows .0 in
             let two = b .grows .0 in
-            ready-on u₂ t₂ s₂ (omega arith) (b .grows .1) lt ls
+            ready-on u₂ t₂ s₂ (omega arith) (b .grows .1) lt ls (told-on O.Fails u₁ u₂ t₁ s₁ t₂ s₂ slot-first told-second b)
 
         pub slot-second : slotAt n s₂ at ≡ slotAt n s at
         slot-second =

@@ -9,7 +9,7 @@ use lib.Seq.{sets-eq}
 use borrow.Author.Needs.{needs}
 use denote.Ref.{now}
 use Rattle.tables.specs.Tables.{outAt, asWords, recordWith}
-use Rattle.tables.specs.inner.Records.{putSet, freshRecord}
+use Rattle.tables.specs.inner.Records.{putSet, freshRecord, freshBy}
 use Rattle.tables.proofs.write_fresh.Statement.{statement}
 use Rattle.tables.proofs.write_fresh.Tie as tie
 
@@ -44,15 +44,15 @@ same-length : tie.Need-same-length
 same-length c = c .before .before .put-set2 .kept .0 ∙ c .before .before .before .before .before .before .put-set .kept .0 ∙ simp length-set
 
 returns : tie.Need-returns
-unfolding putSet freshRecord recordWith asWords
+unfolding putSet freshBy freshRecord recordWith asWords
 returns c =
     let last = c .before .before .put-set2 in
     let first = c .before .before .before .before .before .before .put-set in
     let start = c .before .before .before .before .before .before .before .before .before in
     let a = start .args in
     last .ensures
-    ∙ ap (λ (ws : List ℕ). putSet outAt (a .out) ws) (first .ensures)
-    ∙ sets-eq (a .kind ∷ a .field ∷ a .mask ∷ a .value ∷ 0 ∷ 0 ∷ 0 ∷ asWords (a .sure) ++ asWords (a .out)) (now (a .words)) 0 (start .pre)
+    ∙ ap (λ (ws : List ℕ). putSet outAt (a .fresh .out) ws) (first .ensures)
+    ∙ sets-eq (a .fresh .kind ∷ a .fresh .field ∷ a .fresh .mask ∷ a .fresh .value ∷ 0 ∷ 0 ∷ 0 ∷ asWords (a .fresh .sure) ++ asWords (a .fresh .out)) (now (a .words)) 0 (start .pre)
 
 pub write-fresh-spec : {M : Type 1} → statement M
 write-fresh-spec =

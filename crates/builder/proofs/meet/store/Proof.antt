@@ -1,6 +1,8 @@
 -- `builder::meet::store` meets its contract. The candidate and its record are written into the lent tails behind the states and records there are.
 -- Assumes nothing.
-use Rattle.builder.proofs.Storing.{fresh-is, stored-both}
+use denote.Ref.{now}
+use Rattle.tables.specs.inner.Records.{freshBy}
+use Rattle.builder.proofs.Storing.{stored-both}
 use borrow.Author.Needs.{needs}
 use Rattle.builder.proofs.meet.store.Statement.{statement}
 use Rattle.builder.proofs.meet.store.Tie as tie
@@ -22,15 +24,6 @@ part-copy-into-end c = search needs
 
 copy-into-requires : tie.Need-copy-into-requires
 copy-into-requires c κs = search needs
-
-question-of-requires : tie.Need-question-of-requires
-question-of-requires c κs = search needs
-
-sure-set-requires : tie.Need-sure-set-requires
-sure-set-requires c κs = search needs
-
-out-set-requires : tie.Need-out-set-requires
-out-set-requires c κs = search needs
 
 mul-write-fresh : tie.Need-mul-write-fresh
 mul-write-fresh c = search needs
@@ -59,17 +52,12 @@ same-length-2 c = search needs
 returns : tie.Need-returns
 returns c =
     let r = c .before .before in
-    let o = r .before .before in
-    let s = o .before in
-    let q = s .before in
-    let w = q .before .before .before in
-    let b = w .before .before .before .before .before .before in
+    let w = r .before .before .before .before in
+    let b = w .before .before .before .before .before in
     let a = b .args in
-    let asked = q .question-of .result in
-    let fresh = fresh-is (a .n) (a .ranks .now) (a .candidate .now) (asked .kind) (asked .field) (asked .mask) (asked .value) (s .sure-set .result) (o .out-set .result)
-    (q .question-of .ensures) (s .sure-set .ensures) (o .out-set .ensures) in
-    stored-both (a .n) (a .slots) (a .ranks .now) (a .used) (a .table .now) (a .scratch .now) (a .candidate .now) (w .copy-into .last .0) (r .write-fresh .last .0) _ (b .pre)
-    (w .copy-into .ensures) (r .write-fresh .ensures) fresh
+    λ ranks is.
+    stored-both (a .n) (a .slots) ranks (a .used) (now (a .table)) (now (a .scratch)) (now (a .candidate)) (w .copy-into .last .0) (r .write-fresh .last .0) (freshBy (a .fresh)) (b .pre)
+    (w .copy-into .ensures) (r .write-fresh .ensures) is
 
 pub store-spec : {M : Type 1} → statement M
 store-spec =
@@ -81,9 +69,6 @@ store-spec =
     part-copy-into-start
     part-copy-into-end
     copy-into-requires
-    question-of-requires
-    sure-set-requires
-    out-set-requires
     mul-write-fresh
     mul-write-fresh-2
     sub-write-fresh

@@ -61,23 +61,31 @@ start-into-requires c κs =
 
 array-share-prefix-words : tie.Need-array-share-prefix-words
 array-share-prefix-words c =
-    let p = c .before .before .before in
+    let p = c .before in
     let s = p .before .before .before .before .before .before .before in
     let a = s .args in
     let roomy = A.start-roomy (a .n) (a .slots) (now (a .ranks)) (now (a .list)) (now (a .table)) (now (a .scratch)) (s .pre) in
     front-fits (a .n) words roomy (p .start-into .last .1 .0) (p .start-into .kept .1 .0)
 
-slice-aggregate-store : tie.Need-slice-aggregate-store
-slice-aggregate-store c =
-    let p = c .before .before .before .before in
+slice-aggregate-start : tie.Need-slice-aggregate-start
+slice-aggregate-start c =
+    let p = c .before .before in
     let s = p .before .before .before .before .before .before .before in
     let a = s .args in
     let roomy = A.start-roomy (a .n) (a .slots) (now (a .ranks)) (now (a .list)) (now (a .table)) (now (a .scratch)) (s .pre) in
     sym (front-whole (a .n) words roomy (p .start-into .last .1 .0) (p .start-into .kept .1 .0))
 
+fresh-of-requires : tie.Need-fresh-of-requires
+fresh-of-requires c κs =
+    let p = c .before .before in
+    let s = p .before .before .before .before .before .before .before in
+    let a = s .args in
+    let roomy = A.start-roomy (a .n) (a .slots) (now (a .ranks)) (now (a .list)) (now (a .table)) (now (a .scratch)) (s .pre) in
+    A.fresh-asks (a .n) (a .slots) (now (a .ranks)) (now (a .list)) (now (a .table)) (now (a .scratch)) (s .pre) _ (front-whole (a .n) words roomy (p .start-into .last .1 .0) (p .start-into .kept .1 .0))
+
 store-requires : tie.Need-store-requires
 store-requires c κs =
-    let p = c .before .before .before .before in
+    let p = c .before .before .before .before .before in
     let s = p .before .before .before .before .before .before .before in
     let a = s .args in
     let roomy = A.start-roomy (a .n) (a .slots) (now (a .ranks)) (now (a .list)) (now (a .table)) (now (a .scratch)) (s .pre) in
@@ -85,24 +93,28 @@ store-requires c κs =
 
 slice-aggregate-place-state : tie.Need-slice-aggregate-place-state
 slice-aggregate-place-state c =
-    let p = c .before .before .before .before .before .before .before .before .before .before .before .before in
+    let p = c .before .before .before .before .before .before .before .before .before .before .before .before .before in
     let s = p .before .before .before .before .before .before .before in
     sym (length-front words (p .start-into .last .1 .0) (filterSlot * s .args .n) (p .start-into .kept .1 .0))
 
 place-state-requires : tie.Need-place-state-requires
 place-state-requires c κs =
     let v = c .before .before .before .before .before .before .before in
-    let p = v .before .before .before .before .before in
+    let g = v .before .before .before in
+    let p = g .before .before .before in
     let s = p .before .before .before .before .before .before .before in
     let a = s .args in
     let roomy = A.start-roomy (a .n) (a .slots) (now (a .ranks)) (now (a .list)) (now (a .table)) (now (a .scratch)) (s .pre) in
     let made = front-is (a .n) words roomy (p .start-into .last .1 .0) (p .start-into .kept .1 .0) ∙ p .start-into .ensures in
-    let some = some-slot (a .slots) (p .before .before .if1 .left) in (
-      A.ready-start (a .n) (a .slots) (now (a .ranks)) (now (a .list)) (now (a .table)) (now (a .scratch)) (s .pre) _ _ some (v .store .kept .1 .1 .1 .0) (v .store .kept .1 .1 .1 .1 .0),
+    let some = some-slot (a .slots) (p .before .before .if1 .left) in
+    let t₁ = v .store .last .1 .1 .0 in
+    let s₁ = v .store .last .1 .1 .1 .0 in
+    let kept = begun _ _ _ _ _ _ _ _ _ made (v .store .ensures (now (a .ranks)) (g .fresh-of .ensures)) in (
+      A.ready-start (a .n) (a .slots) (now (a .ranks)) (now (a .list)) (now (a .table)) (now (a .scratch)) (s .pre) _ _ some (v .store .kept .1 .1 .0) (v .store .kept .1 .1 .1 .0)
+          (S.told-begin (a .n) (a .slots) (now (a .ranks)) (now (a .list)) (now (a .table)) (now (a .scratch)) (s .pre) some t₁ s₁ kept),
       (
         front-fits (a .n) words roomy (p .start-into .last .1 .0) (p .start-into .kept .1 .0),
-        S.good-begin (a .n) (a .slots) (now (a .ranks)) (now (a .list)) (now (a .table)) (now (a .scratch)) (s .pre) some (v .store .last .1 .1 .1 .0) (v .store .last .1 .1 .1 .1 .0)
-            (begun _ _ _ _ _ _ _ _ _ made (v .store .ensures)),
+        S.good-begin (a .n) (a .slots) (now (a .ranks)) (now (a .list)) (now (a .table)) (now (a .scratch)) (s .pre) some t₁ s₁ kept,
       ),
     )
 
@@ -116,15 +128,16 @@ returns-2 : tie.Need-returns-2
 returns-2 c =
     let x = c .before .before .before .before .before in
     let v = x .before .before .before .before .before .before .before .before in
-    let p = v .before .before .before .before .before in
+    let g = v .before .before .before in
+    let p = g .before .before .before in
     let s = p .before .before .before .before .before .before .before in
     let a = s .args in
     let roomy = A.start-roomy (a .n) (a .slots) (now (a .ranks)) (now (a .list)) (now (a .table)) (now (a .scratch)) (s .pre) in
     let made = front-is (a .n) words roomy (p .start-into .last .1 .0) (p .start-into .kept .1 .0) ∙ p .start-into .ensures in
-    let t₁ = v .store .last .1 .1 .1 .0 in
-    let s₁ = v .store .last .1 .1 .1 .1 .0 in
+    let t₁ = v .store .last .1 .1 .0 in
+    let s₁ = v .store .last .1 .1 .1 .0 in
     S.started (a .n) (a .slots) (now (a .ranks)) (now (a .list)) (now (a .table)) (now (a .scratch)) (s .pre)
-    (some-slot (a .slots) (p .before .before .if1 .left)) t₁ s₁ (begun _ _ _ _ _ _ _ _ _ made (v .store .ensures))
+    (some-slot (a .slots) (p .before .before .if1 .left)) t₁ s₁ (begun _ _ _ _ _ _ _ _ _ made (v .store .ensures (now (a .ranks)) (g .fresh-of .ensures)))
     (x .place-state .result) (x .place-state .last .1 .1 .1 .0) (x .place-state .last .1 .1 .1 .1 .0) (x .place-state .ensures)
 
 pub place-start-spec : {M : Type 1} → statement M
@@ -137,7 +150,8 @@ place-start-spec =
     slice-aggregate-start-into
     start-into-requires
     array-share-prefix-words
-    slice-aggregate-store
+    slice-aggregate-start
+    fresh-of-requires
     store-requires
     slice-aggregate-place-state
     place-state-requires
