@@ -2,7 +2,7 @@
 ghost use mathlib.Core.Path.{_≡_};
 ghost use Prim.Native.Nat.{_<_};
 ghost use lib.ListN.{length, getD};
-ghost use Rattle.gateway.specs.Gateway.{lowestOf, allVerdicts, verdictsFit, judgementOf, countedAt, judged, emptied};
+ghost use Rattle.gateway.specs.Gateway.{tallyCount, lowestOf, allVerdicts, verdictsFit, judgementOf, countedAt, judgedBy, judged, emptied};
 use lists::MAX_FILTERS;
 use lists::MAX_TESTS;
 use matcher::Answer;
@@ -89,6 +89,20 @@ fn count_frame(place: usize, verdicts: &[u32], standing: u32, tallies: &mut [u32
     Judged::Verdict(verdict_at(verdicts, standing, place))
 }
 
+// Judges a frame by what its walk came to. A walk that was stopped is refused.
+fn judge_walk(answer: Answer, verdicts: &[u32], standing: u32, tallies: &mut [u32]) -> Judged
+    requires { ⌜ length (now tallies) ≡ tallyCount ⌝ }
+    ensures { λ r. ⌜ judgementOf r (now (tallies .exit)) ≡ judgedBy answer (now (verdicts .entry)) standing (now (tallies .entry)) ⌝ }
+{
+    match answer {
+        Answer::Done(found) => {
+            count_frame(lowest_of(found.sure) as usize, verdicts, standing, tallies)
+        }
+        Answer::Stopped(_) => Judged::Refused(13),
+        Answer::Refused(number) => Judged::Refused(number),
+    }
+}
+
 // Judges a frame, which came in at a box port, by a table of so many states, a verdict for each filter and the standing verdict for
 // a frame that matches none. Counts it in the tally of the filter that gave the verdict, or in the last tally. A refusal changes no tally.
 pub fn judge(
@@ -105,15 +119,11 @@ pub fn judge(
     if tallies.len() != TALLIES {
         return Judged::Refused(24);
     }
-    if !verdicts_fit(verdicts, standing) {
-        return Judged::Refused(16);
-    }
-    match matcher::classify(frame, port, table, states, ALLOWANCE) {
-        Answer::Done(found) => {
-            count_frame(lowest_of(found.sure) as usize, verdicts, standing, tallies)
-        }
-        Answer::Stopped(_) => Judged::Refused(13),
-        Answer::Refused(number) => Judged::Refused(number),
+    if verdicts_fit(verdicts, standing) {
+        let answer = matcher::classify(frame, port, table, states, ALLOWANCE);
+        judge_walk(answer, verdicts, standing, tallies)
+    } else {
+        Judged::Refused(16)
     }
 }
 

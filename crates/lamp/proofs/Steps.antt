@@ -4,29 +4,34 @@
 --   walking-start            so it is at record 0 with the words of the start
 --   copied                   words copied over as many others
 --   fits-in                  a number of states that is neither 0 nor above the slots
--- A turn with the question's words q: turned-back, lit-here, dark-here, Asking (there is a question), gone-astray, gone-on.
+--   faultIn f t m            the refusal's number before the walk, 0 where there is none
+--   faulted, faultless       with such a number the lamp is refused; without, frame and number of states are fine
+-- A turn with the question's words q: ended-here, Asking (there is a question), asking, gone-astray, gone-on.
 -- Assumes nothing.
 use Prim.Native.Nat.{ℕ, suc, _+_, _-_, _*_, _≤_, _<_}
 use native.Mathlib.Nat.{sub-zero}
 use native.Mathlib.Omega.{arith}
-use mathlib.Core.Path.{_≡_, sym, ap, ap₂, _∙_}
-use mathlib.Core.Bool.{true, false, not, _||_, false≢true}
+use mathlib.Core.Path.{_≡_, refl, sym, ap, ap₂, _∙_}
+use mathlib.Core.Bool.{Bool, true, false, cond, not, _||_, false≢true, Bool·not-not}
 use mathlib.Core.List.{List, _++_, append-nil}
 use lib.Dec.{eqb, ltb}
 use lib.ListN.{length, drop, getD}
 use lib.Seq.{drop-length}
-use borrow.Author.Tests.{eqb-false, eq-eqb, ne-eqb, ltb-false, not-true, not-false}
+use borrow.Author.Tests.{eqb-true, eqb-false, eq-eqb, ltb-true, ltb-false, not-true, not-false}
 use Rattle.residue.specs.laws.Choice.{neither}
 use Rattle.residue.specs.declared.Reading.{Reading}
 use Rattle.residue.specs.declared.Outcome.{Outcome}
+use Rattle.fields.specs.Ethernet.{maxFrame}
 use Rattle.sets.specs.Sets.{some}
 use Rattle.sets.specs.laws.Members.{zero-tally}
 use Rattle.lists.specs.Filters.{Item, Filter, maxFilters, itemOf, kindAt, testsIn}
 use Rattle.lists.specs.Words.{kindOf, itemWords}
 use Rattle.lists.specs.Ranks.{rankSets}
 use Rattle.lists.specs.inner.Well.{wellFilters}
+use Rattle.lists.specs.Refusals.{listed}
+use Rattle.lists.specs.declared.Listed.the-variants.{Accepted}
 use Rattle.lists.specs.laws.Items.{kind-some, item-round}
-use Rattle.states.specs.States.{State, standing, isHeld, start, ask, questionOf, stepBy}
+use Rattle.states.specs.States.{State, standing, isHeld, start, nothing, ask, questionOf, stepBy}
 use Rattle.states.specs.Runs.{wayOf, advance}
 use Rattle.states.specs.inner.Remaining.{remaining}
 use Rattle.states.specs.laws.Keeps.{by-question, advance-ask}
@@ -41,12 +46,12 @@ use Rattle.slots.specs.laws.Written.{question-written, held-written, by-written
 use Rattle.tables.specs.Tables.{maxSlots, recordWords, slotsOf}
 use Rattle.tables.specs.inner.Records.{wayAt}
 use Rattle.tables.specs.laws.Least.{slots-least}
-use Rattle.lamp.specs.Lamp.{asIs, someHeld, lampNext, lampFrom}
+use Rattle.lamp.specs.Lamp.{asIs, someHeld, lampNext, lampAt, lampFrom, lampOf}
 use Rattle.lamp.specs.declared.Lamp.{Lamp}
-use Rattle.lamp.specs.declared.Lamp.the-variants.{Lit, Dark, Refused}
+use Rattle.lamp.specs.declared.Lamp.the-variants.{Dark, Refused}
 use Rattle.lamp.specs.inner.Records.{recordAsks, Fits}
 use Rattle.lamp.specs.laws.Records.{as-asked}
-use Rattle.lamp.specs.laws.Turns.{turn-refused, turn-lit, turn-dark, turn-astray, turn-goes}
+use Rattle.lamp.specs.laws.Turns.{turn-refused, turn-lit, turn-dark, turn-astray, turn-goes, lamp-long, lamp-misfit}
 
 -- ---- the number of states
 
@@ -56,6 +61,41 @@ fits-in t m e =
     let q = neither (ltb maxSlots m) (ltb (length t) (recordWords * m)) (sym (slots-least t m) ∙ p .1) in
     let z = eqb-false m 0 (p .0) in
     record { some = omega arith; few = ltb-false maxSlots m (q .0); room = ltb-false (length t) (recordWords * m) (q .1) }
+
+-- ---- the refusals before the walk
+
+abbrev pub faultIn : List ℕ → List ℕ → ℕ → ℕ
+faultIn f t m = cond (ltb maxFrame (length f)) 12 (cond (eqb m 0 || ltb (slotsOf t) m) 13 0)
+
+module _ (f t : List ℕ) (m : ℕ) where
+  -- By both tests.
+  by-fault :
+      (A : Type 0) →
+      (maxFrame < length f → faultIn f t m ≡ 12 → A) →
+      (length f ≤ maxFrame → (eqb m 0 || ltb (slotsOf t) m) ≡ true → faultIn f t m ≡ 13 → A) →
+      (length f ≤ maxFrame → (eqb m 0 || ltb (slotsOf t) m) ≡ false → faultIn f t m ≡ 0 → A) →
+      A
+  by-fault A too-long misfit none = go (ltb maxFrame (length f)) refl (eqb m 0 || ltb (slotsOf t) m) refl
+    where
+      go : (a : Bool) → ltb maxFrame (length f) ≡ a → (b : Bool) → (eqb m 0 || ltb (slotsOf t) m) ≡ b → A
+      go true l b z = too-long (ltb-true maxFrame (length f) l) (rw l)
+      go false l true z = misfit (ltb-false maxFrame (length f) l) z (rw (l, z))
+      go false l false z = none (ltb-false maxFrame (length f) l) z (rw (l, z))
+
+  pub faulted :
+      (l : List ℕ) (p c k : ℕ) → listed l ≡ Accepted c k → (n : ℕ) → n ≡ faultIn f t m → (n ≡ 0 → ⊥) → Refused n 0 ≡ lampOf l f p t m
+  faulted l p c k e n told some =
+      by-fault (Refused n 0 ≡ lampOf l f p t m)
+      (λ long h. ap (λ (j : ℕ). Refused j 0) (told ∙ h) ∙ sym (lamp-long l f p t m c k e long))
+      (λ short z h. ap (λ (j : ℕ). Refused j 0) (told ∙ h) ∙ sym (lamp-misfit l f p t m c k e short z))
+      (λ short z h. absurd (some (told ∙ h)))
+
+  pub faultless : (n : ℕ) → n ≡ faultIn f t m → n ≡ 0 → (length f ≤ maxFrame) × ((eqb m 0 || ltb (slotsOf t) m) ≡ false)
+  faultless n told zero =
+      by-fault ((length f ≤ maxFrame) × ((eqb m 0 || ltb (slotsOf t) m) ≡ false))
+      (λ long h. absurd (omega arith))
+      (λ short z h. absurd (omega arith))
+      (λ short z h. (short, z))
 
 -- ---- words copied over as many
 
@@ -124,46 +164,56 @@ module _ (fs : List Filter) (t : List ℕ) (m : ℕ) (r : ℕ → Reading) where
         zero-tally (length fs) (λ i. isHeld (standing s i)) ∙
         ap (λ (j : ℕ). not (some j (λ i. isHeld (standing s i)))) (sym (x .long))
 
-    pub turned-back : recordAsks t n q ≡ false → Refused 13 0 ≡ answer fs t m r
-    turned-back e = sym (turn-refused fs t m r (testsIn fs - k) k n s (sym asked-is ∙ e)) ∙ x .rest
+    -- What the code found of the record, of the held filters and of the question.
+    module _ {as-is held asks : Bool} (record-told : as-is ≡ recordAsks t n q) (held-told : held ≡ not (eqb (heldSet count w) 0))
+        (asks-told : asks ≡ not (eqb (getD q kindAt 0) 0)) where
+      is : asIs t n (questionOf s) ≡ as-is
+      is = sym asked-is ∙ sym record-told
 
-    module _ (as-is : recordAsks t n q ≡ true) where
-      is : asIs t n (questionOf s) ≡ true
-      is = sym asked-is ∙ as-is
+      some-is : someHeld s ≡ held
+      some-is = sym (Bool·not-not (someHeld s)) ∙ sym (held-told ∙ ap not held-is)
 
-      pub lit-here : (heldSet count w ≡ 0 → ⊥) → Lit k ≡ answer fs t m r
-      lit-here h = sym (turn-lit fs t m r (testsIn fs - k) k n s is (not-false (someHeld s) (sym held-is ∙ ne-eqb _ 0 h))) ∙ x .rest
+      kind-is : (p : Item) → questionOf s ≡ ask p → getD q kindAt 0 ≡ kindOf (p .test)
+      unfolding questionWords itemWords
+      kind-is p e = ap (λ (ws : List ℕ). getD ws kindAt 0) (question-is ∙ ap questionWords e)
 
-      module _ (held : heldSet count w ≡ 0) where
-        none : someHeld s ≡ false
-        none = not-true (someHeld s) (sym held-is ∙ eq-eqb _ 0 held)
+      no-question : asks ≡ false → questionOf s ≡ nothing
+      no-question z =
+          let zero = not-false (eqb (getD q kindAt 0) 0) (sym asks-told ∙ z) in
+          by-question (questionOf s ≡ nothing) s (λ e. e)
+          (λ p e. absurd (false≢true (sym (kind-some (p .test)) ∙ eq-eqb _ 0 (sym (kind-is p e) ∙ eqb-true _ 0 zero))))
 
-        kind-is : (p : Item) → questionOf s ≡ ask p → getD q kindAt 0 ≡ kindOf (p .test)
-        unfolding questionWords itemWords
-        kind-is p e = ap (λ (ws : List ℕ). getD ws kindAt 0) (question-is ∙ ap questionWords e)
+      -- The walk goes no further.
+      pub ended-here : (not as-is || held || not asks) ≡ true → lampAt as-is held k (Dark k) ≡ answer fs t m r
+      unfolding lampAt
+      ended-here = go as-is held asks is some-is no-question
+        where
+          go :
+              (a h c : Bool) → asIs t n (questionOf s) ≡ a → someHeld s ≡ h → (c ≡ false → questionOf s ≡ nothing) → (not a || h || not c) ≡ true → lampAt a h k (Dark k) ≡ answer fs t m r
+          go false h c e f g z = sym (turn-refused fs t m r (testsIn fs - k) k n s e) ∙ x .rest
+          go true true c e f g z = sym (turn-lit fs t m r (testsIn fs - k) k n s e f) ∙ x .rest
+          go true false c e f g z = sym (turn-dark fs t m r (testsIn fs - k) k n s e f (g (not-true c z))) ∙ x .rest
 
-        pub dark-here : getD q kindAt 0 ≡ 0 → Dark k ≡ answer fs t m r
-        dark-here z =
-            by-question (Dark k ≡ answer fs t m r) s
-            (λ e. sym (turn-dark fs t m r (testsIn fs - k) k n s is none e) ∙ x .rest)
-            (λ p e. absurd (false≢true (sym (kind-some (p .test)) ∙ eq-eqb _ 0 (sym (kind-is p e) ∙ z))))
-
-        pub asking : (getD q kindAt 0 ≡ 0 → ⊥) → Asking fs t m r w k n count q
-        unfolding questionWords
-        asking h =
-            by-question (Asking fs t m r w k n count q) s
-            (λ e. absurd (h (ap (λ (ws : List ℕ). getD ws kindAt 0) (question-is ∙ ap questionWords e))))
-            (λ p e.
-            record {
-              walking = x;
-              item = p;
-              asks = e;
-              means = ap itemOf (question-is ∙ ap questionWords e) ∙ item-round p;
-              as-is = is;
-              none-held = none;
-              counts = counted;
-              smalls = small;
-            })
+      -- It asks on.
+      pub asking : (not as-is || held || not asks) ≡ false → Asking fs t m r w k n count q
+      unfolding questionWords
+      asking z =
+          let both = neither (not as-is || held) (not asks) z in
+          let fine = neither (not as-is) held (both .0) in
+          let some = not-true (eqb (getD q kindAt 0) 0) (sym asks-told ∙ not-false asks (both .1)) in
+          by-question (Asking fs t m r w k n count q) s
+          (λ e. absurd (eqb-false _ 0 some (ap (λ (ws : List ℕ). getD ws kindAt 0) (question-is ∙ ap questionWords e))))
+          (λ p e.
+          record {
+            walking = x;
+            item = p;
+            asks = e;
+            means = ap itemOf (question-is ∙ ap questionWords e) ∙ item-round p;
+            as-is = is ∙ not-false as-is (fine .0);
+            none-held = some-is ∙ fine .1;
+            counts = counted;
+            smalls = small;
+          })
 
 -- A question that comes to o, and the record's next number at o.
 module _ {fs : List Filter} {t : List ℕ} {m : ℕ} {r : ℕ → Reading} {w : List ℕ} {k n count : ℕ} {q : List ℕ} (y : Asking fs t m r w k n count q)

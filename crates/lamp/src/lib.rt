@@ -1,6 +1,6 @@
 // The activity lamp: whether any filter matches a frame, without saying which (change request P4).
 ghost use mathlib.Core.Path.{_≡_};
-ghost use mathlib.Core.Bool.{_||_};
+ghost use mathlib.Core.Bool.{cond, not, _||_};
 ghost use mathlib.Core.List.{_∷_, []};
 ghost use Prim.Native.Nat.{ℕ, _+_, _*_, _≤_, _<_};
 ghost use lib.Dec.{eqb, ltb};
@@ -13,7 +13,8 @@ ghost use Rattle.states.specs.Runs.{wayOf};
 ghost use Rattle.states.specs.States.{start};
 ghost use Rattle.tables.specs.Tables.{recordWords, maxSlots, slotsOf};
 ghost use Rattle.tables.specs.inner.Records.{wayAt};
-ghost use Rattle.lamp.specs.Lamp.{lampFrom, lampOf};
+ghost use Rattle.lamp.specs.Lamp.{lampAt, lampFrom, lampOf};
+ghost use Rattle.lamp.specs.declared.Lamp.the-variants.{Dark};
 ghost use Rattle.lamp.specs.inner.Records.{recordAsks, Lighting};
 use fields::FIELDS;
 use fields::MAX_FRAME;
@@ -75,6 +76,26 @@ fn way_at(table: &[u32], n: usize, o: Outcome) -> u32
     table[RECORD_WORDS * n + tables::next_at(o)]
 }
 
+// Whether the walk goes no further than a record: it asks something else, a filter is held, or there is nothing to ask.
+fn ends(as_is: bool, held: bool, asks: bool) -> bool
+    ensures { λ r. ⌜ r ≡ (not as_is || held || not asks) ⌝ }
+{
+    !as_is | held | !asks
+}
+
+// The answer there. The record's check comes first.
+fn end(as_is: bool, held: bool, asked: u32) -> Lamp
+    ensures { λ r. ⌜ r ≡ lampAt as_is held asked (Dark asked) ⌝ }
+{
+    if !as_is {
+        Lamp::Refused(13, 0)
+    } else if held {
+        Lamp::Lit(asked)
+    } else {
+        Lamp::Dark(asked)
+    }
+}
+
 // The walk from record 0 and the start of an accepted list on, over a header that was read. The state is made in lent words, each next one in the room beside it.
 fn lamp_from(
     list: &[u32],
@@ -96,14 +117,11 @@ fn lamp_from(
     loop {
         let s = at as usize;
         let q = slots::question_of(state, n);
-        if !record_asks(table, s, q.kind, q.field, q.mask, q.value) {
-            return Lamp::Refused(13, 0);
-        }
-        if slots::held_set(state, n) != 0 {
-            return Lamp::Lit(asked);
-        }
-        if q.kind == 0 {
-            return Lamp::Dark(asked);
+        let as_is = record_asks(table, s, q.kind, q.field, q.mask, q.value);
+        let held = slots::held_set(state, n) != 0;
+        let asks = q.kind != 0;
+        if ends(as_is, held, asks) {
+            return end(as_is, held, asked);
         }
         let way = way_of(present, values, q.kind, q.field, q.mask, q.value);
         at = way_at(table, s, way);
@@ -123,6 +141,19 @@ fn misfits(table: &[u32], states: u32) -> bool
     (states == 0) | (tables::slots_of(table.len()) < states as usize)
 }
 
+// The refusal's number before the walk: 12 for a frame that is too long, then 13 for a number of states that misfits; 0 for none.
+fn fault_of(long: bool, misfit: bool) -> u32
+    ensures { λ r. ⌜ r ≡ cond long 12 (cond misfit 13 0) ⌝ }
+{
+    if long {
+        12
+    } else if misfit {
+        13
+    } else {
+        0
+    }
+}
+
 // The lamp for an accepted list of n filters: the words of two states and the rank sets are its own.
 fn light_accepted(
     list: &[u32],
@@ -135,11 +166,9 @@ fn light_accepted(
     requires { ⌜ ((t : ℕ) × (listed (now list) ≡ Accepted n t)) ⌝ }
     ensures { λ r. ⌜ r ≡ lampOf (now (list .entry)) (now (frame .entry)) port (now (table .entry)) states ⌝ }
 {
-    if MAX_FRAME < frame.len() {
-        return Lamp::Refused(12, 0);
-    }
-    if misfits(table, states) {
-        return Lamp::Refused(13, 0);
+    let fault = fault_of(MAX_FRAME < frame.len(), misfits(table, states));
+    if fault != 0 {
+        return Lamp::Refused(fault, 0);
     }
     let mut ranks = [0u32; MAX_FILTERS];
     lists::rank_sets(list, &mut ranks);

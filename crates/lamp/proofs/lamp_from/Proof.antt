@@ -1,12 +1,13 @@
 -- `lamp::lamp_from` meets its contract. The loop's invariant: the words are those of the state that the walk has reached, and what is left of the walk answers the whole.
 -- A turn goes on by the state's own question, so one test fewer remains. Assumes nothing.
-use Prim.Native.Nat.{_-_, _*_, _≤_}
+use Prim.Native.Nat.{ℕ, _-_, _*_, _≤_}
 use native.Mathlib.Omega.{arith}
-use mathlib.Core.Path.{_≡_, sym, _∙_}
+use mathlib.Core.Path.{_≡_, refl, sym, ap, _∙_}
+use mathlib.Core.Bool.{not}
 use mathlib.Core.List.{[], _∷_}
+use lib.Dec.{eqb}
 use lib.ListN.{length}
 use borrow.Author.Needs.{needs}
-use borrow.Author.Tests.{not-true, not-false}
 use Rattle.fields.specs.Header.{readingAt}
 use Rattle.lists.specs.Filters.{maxFilters, filtersOf, testsIn}
 use Rattle.lists.specs.laws.Accepted.{accepted-count, accepted-well}
@@ -14,7 +15,7 @@ use Rattle.lists.specs.laws.Ranking.{length-rankSets}
 use Rattle.slots.specs.Words.{filterSlot}
 use Rattle.slots.specs.laws.Written.{start-accepted}
 use Rattle.lamp.specs.inner.Records.{Lighting}
-use Rattle.lamp.proofs.Steps.{Walking, copied, walking-start, turned-back, lit-here, dark-here, Asking, asking, gone-astray, fewer-left, gone-on}
+use Rattle.lamp.proofs.Steps.{Walking, copied, walking-start, ended-here, Asking, asking, gone-astray, fewer-left, gone-on}
 use Rattle.lamp.proofs.lamp_from.Statement.{statement}
 use Rattle.lamp.proofs.lamp_from.Tie as tie
 
@@ -78,6 +79,15 @@ record-asks-requires c κs =
     let i = l .loop .inv .0 .inside in
     (omega arith, omega arith)
 
+held-set-requires : tie.Need-held-set-requires Inv-loop μ-loop
+held-set-requires c κs = let l = loop-of (c .before .before) in record { few = small l; whole = l .loop .inv .1 }
+
+ends-requires : tie.Need-ends-requires Inv-loop μ-loop
+ends-requires c κs = search needs
+
+end-requires : tie.Need-end-requires Inv-loop μ-loop
+end-requires c κs = search needs
+
 same-length : tie.Need-same-length Inv-loop μ-loop
 same-length c = search needs
 
@@ -86,47 +96,19 @@ same-length-2 c = search needs
 
 returns : tie.Need-returns Inv-loop μ-loop
 returns c =
-    let h = c .before .before in
+    let e = c .before .before in
+    let d = e .before .before in
+    let h = d .before .before .before in
     let l = loop-of h in
-    turned-back _ _ _ _ (l .loop .inv .0) _ (counted l) (small l) _ (h .question-of .ensures) (sym (c .before .record-asks .ensures) ∙ not-true _ (c .if1 .taken))
+    c .end .ensures ∙
+    ended-here _ _ _ _ (l .loop .inv .0) _ (counted l) (small l) _ (h .question-of .ensures) (d .before .before .record-asks .ensures) (ap (λ (o : ℕ). not (eqb o 0)) (d .held-set .ensures)) refl
+    (sym (e .ends .ensures) ∙ c .before .if1 .taken)
 
-held-set-requires : tie.Need-held-set-requires Inv-loop μ-loop
-held-set-requires c κs = let l = loop-of (c .before .before .before) in record { few = small l; whole = l .loop .inv .1 }
-
-same-length-3 : tie.Need-same-length-3 Inv-loop μ-loop
-same-length-3 c = search needs
-
-same-length-4 : tie.Need-same-length-4 Inv-loop μ-loop
-same-length-4 c = search needs
-
-returns-2 : tie.Need-returns-2 Inv-loop μ-loop
-returns-2 c =
-    let e = c .before .before .before in
-    let h = e .before .before in
-    let l = loop-of h in
-    lit-here _ _ _ _ (l .loop .inv .0) _ (counted l) (small l) _ (h .question-of .ensures) (sym (e .before .record-asks .ensures) ∙ not-false _ (e .if1 .left))
-    (λ z. c .if2 .taken (c .before .held-set .ensures ∙ z))
-
-same-length-5 : tie.Need-same-length-5 Inv-loop μ-loop
-same-length-5 c = search needs
-
-same-length-6 : tie.Need-same-length-6 Inv-loop μ-loop
-same-length-6 c = search needs
-
-returns-3 : tie.Need-returns-3 Inv-loop μ-loop
-returns-3 c =
-    let d = c .before .before in
-    let e = d .before .before .before in
-    let h = e .before .before in
-    let l = loop-of h in
-    dark-here _ _ _ _ (l .loop .inv .0) _ (counted l) (small l) _ (h .question-of .ensures) (sym (e .before .record-asks .ensures) ∙ not-false _ (e .if1 .left))
-    (sym (d .before .held-set .ensures) ∙ d .if2 .left) (c .if3 .taken)
-
-abbrev asked-of : tie.Else3 Inv-loop μ-loop → tie.After-question-of Inv-loop μ-loop
-asked-of c = c .before .before .before .before .before .before .before
+abbrev asked-of : tie.Else1 Inv-loop μ-loop → tie.After-question-of Inv-loop μ-loop
+asked-of c = c .before .before .before .before .before .before
 
 asks-on :
-    (c : tie.Else3 Inv-loop μ-loop) →
+    (c : tie.Else1 Inv-loop μ-loop) →
     let h = asked-of c in
     let l = loop-of h in
     let a = start-of l .args in
@@ -134,12 +116,12 @@ asks-on :
     Asking (filtersOf (a .list .now)) (a .table .now) (a .states) (readingAt (a .present) (a .values .now)) (l .loop .state) (l .loop .asked) (l .loop .at) (a .n)
     (q .kind ∷ q .field ∷ q .mask ∷ q .value ∷ [])
 asks-on c =
-    let d = c .before .before in
-    let e = d .before .before .before in
-    let h = e .before .before in
+    let e = c .before in
+    let d = e .before .before in
+    let h = d .before .before .before in
     let l = loop-of h in
-    asking _ _ _ _ (l .loop .inv .0) _ (counted l) (small l) _ (h .question-of .ensures) (sym (e .before .record-asks .ensures) ∙ not-false _ (e .if1 .left))
-    (sym (d .before .held-set .ensures) ∙ d .if2 .left) (c .if3 .left)
+    asking _ _ _ _ (l .loop .inv .0) _ (counted l) (small l) _ (h .question-of .ensures) (d .before .before .record-asks .ensures) (ap (λ (o : ℕ). not (eqb o 0)) (d .held-set .ensures)) refl
+    (sym (e .ends .ensures) ∙ c .if1 .left)
 
 way-of-requires : tie.Need-way-of-requires Inv-loop μ-loop
 way-of-requires c κs = search needs
@@ -151,20 +133,20 @@ way-at-requires c κs =
     let i = l .loop .inv .0 .inside in
     (omega arith, omega arith)
 
-same-length-7 : tie.Need-same-length-7 Inv-loop μ-loop
-same-length-7 c =
+same-length-3 : tie.Need-same-length-3 Inv-loop μ-loop
+same-length-3 c =
     let l = loop-of (asked-of (c .before .before .before)) in
     l .loop .inv .1 ∙ sym (lent l .source)
 
-same-length-8 : tie.Need-same-length-8 Inv-loop μ-loop
-same-length-8 c =
+same-length-4 : tie.Need-same-length-4 Inv-loop μ-loop
+same-length-4 c =
     let l = loop-of (asked-of (c .before .before .before)) in
     l .loop .inv .2 ∙ sym (lent l .target)
 
-returns-4 : tie.Need-returns-4 Inv-loop μ-loop
-returns-4 c =
+returns-2 : tie.Need-returns-2 Inv-loop μ-loop
+returns-2 c =
     let n = c .before in
-    gone-astray (asks-on (n .before .before)) _ (n .before .way-of .ensures) _ (n .way-at .ensures) (c .if4 .taken)
+    gone-astray (asks-on (n .before .before)) _ (n .before .way-of .ensures) _ (n .way-at .ensures) (c .if2 .taken)
 
 step-by-requires : tie.Need-step-by-requires Inv-loop μ-loop
 step-by-requires c κs =
@@ -208,7 +190,7 @@ loop-again c =
     let wide = l .loop .inv .2 in
     let kept = b .step-by .kept .1 .0 in
     let taken = y .copy-into .kept .0 in (
-      gone-on (asks-on e) _ (z .before .before .way-of .ensures) _ (z .before .way-at .ensures) _ (lent l .ranked) (z .if4 .left) _ (y .copy-into .ensures ∙ copied _ _ (omega arith) ∙ b .step-by .ensures),
+      gone-on (asks-on e) _ (z .before .before .way-of .ensures) _ (z .before .way-at .ensures) _ (lent l .ranked) (z .if2 .left) _ (y .copy-into .ensures ∙ copied _ _ (omega arith) ∙ b .step-by .ensures),
       omega arith,
       omega arith,
     )
@@ -224,21 +206,17 @@ lamp-from-spec =
     cast-s
     question-of-requires
     record-asks-requires
+    held-set-requires
+    ends-requires
+    end-requires
     same-length
     same-length-2
     returns
-    held-set-requires
+    way-of-requires
+    way-at-requires
     same-length-3
     same-length-4
     returns-2
-    same-length-5
-    same-length-6
-    returns-3
-    way-of-requires
-    way-at-requires
-    same-length-7
-    same-length-8
-    returns-4
     step-by-requires
     copy-into-requires
     add-asked

@@ -3,17 +3,21 @@
 use Prim.Native.Nat.{ℕ, _*_, _≤_}
 use native.Mathlib.Omega.{arith}
 use mathlib.Core.Path.{_≡_, refl, sym, ap, _∙_}
+use mathlib.Core.Bool.{Bool, false, cond, _||_}
 use mathlib.Core.List.{List}
+use lib.Dec.{eqb, ltb}
 use lib.ListN.{length, take, replicate}
 use lib.Seq.{length-take-le}
 use borrow.Author.Needs.{needs}
+use Rattle.fields.specs.Ethernet.{maxFrame}
 use Rattle.fields.specs.laws.Header.{read-once}
 use Rattle.lists.specs.Filters.{maxFilters, filtersOf}
 use Rattle.lists.specs.laws.Accepted.{accepted-count}
 use Rattle.lists.specs.laws.Ranking.{length-rankSets}
 use Rattle.slots.specs.Words.{filterSlot, slotWords}
-use Rattle.lamp.specs.laws.Turns.{lamp-long, lamp-misfit, lamp-walks}
-use Rattle.lamp.proofs.Steps.{fits-in}
+use Rattle.tables.specs.Tables.{slotsOf}
+use Rattle.lamp.specs.laws.Turns.{lamp-walks}
+use Rattle.lamp.proofs.Steps.{fits-in, faultIn, faulted, faultless}
 use Rattle.lamp.proofs.light_accepted.Statement.{statement}
 use Rattle.lamp.proofs.light_accepted.Tie as tie
 
@@ -24,22 +28,35 @@ slot = replicate slotWords 0
 front : (n : ℕ) → n ≤ maxFilters → length (take (filterSlot * n) slot) ≡ filterSlot * n
 front n l = length-take-le (filterSlot * n) slot (omega arith)
 
-few : (c : tie.After-read-header) → c .before .before .before .before .before .before .before .before .before .before .args .n ≤ maxFilters
-few c = accepted-count _ _ _ (c .before .before .before .before .before .before .before .before .before .before .pre .1) .2
+-- The number of a refusal before the walk, and what is known where there is none.
+abbrev start-of : tie.After-fault-of → tie.Start
+start-of f = f .before .before .before .before .before
 
-returns : tie.Need-returns
-returns c =
-    let s = c .before .before .before .before in
-    sym (lamp-long _ _ _ _ _ _ _ (s .pre .1) (c .if1 .taken))
+fault-is : (f : tie.After-fault-of) → let a = start-of f .args in f .fault-of .result ≡ faultIn (a .frame .now) (a .table .now) (a .states)
+fault-is f =
+    f .fault-of .ensures ∙ ap (λ (b : Bool). cond (ltb maxFrame (length (start-of f .args .frame .now))) 12 (cond b 13 0)) (f .before .misfits .ensures)
+
+fine :
+    (e : tie.Else1) →
+    let a = start-of (e .before) .args in
+    (length (a .frame .now) ≤ maxFrame) × ((eqb (a .states) 0 || ltb (slotsOf (a .table .now)) (a .states)) ≡ false)
+fine e =
+    let a = start-of (e .before) .args in
+    faultless (a .frame .now) (a .table .now) (a .states) _ (fault-is (e .before)) (e .if1 .left)
+
+few : (c : tie.After-read-header) → start-of (c .before .before .before .before .before) .args .n ≤ maxFilters
+few c = accepted-count _ _ _ (start-of (c .before .before .before .before .before) .pre .1) .2
 
 misfits-requires : tie.Need-misfits-requires
 misfits-requires c κs = search needs
 
-returns-2 : tie.Need-returns-2
-returns-2 c =
-    let e = c .before .before in
-    let s = e .before .before .before .before in
-    sym (lamp-misfit _ _ _ _ _ _ _ (s .pre .1) (e .if1 .left) (sym (c .before .misfits .ensures) ∙ c .if2 .taken))
+fault-of-requires : tie.Need-fault-of-requires
+fault-of-requires c κs = search needs
+
+returns : tie.Need-returns
+returns c =
+    let s = start-of (c .before) in
+    faulted (s .args .frame .now) (s .args .table .now) (s .args .states) _ _ _ _ (s .pre .1) _ (fault-is (c .before)) (c .if1 .taken)
 
 rank-sets-requires : tie.Need-rank-sets-requires
 rank-sets-requires c κs = search needs
@@ -53,7 +70,7 @@ mul-width c = omega (arith, few c)
 slice-aggregate-lamp-from : tie.Need-slice-aggregate-lamp-from
 slice-aggregate-lamp-from c =
     let k = c .before .before .before in
-    sym (ap length (k .rank-sets .ensures) ∙ length-rankSets (filtersOf (k .before .before .before .before .before .before .before .before .args .list .now)))
+    sym (ap length (k .rank-sets .ensures) ∙ length-rankSets (filtersOf (start-of (k .before .before .before) .args .list .now)))
 
 array-borrow-prefix-state : tie.Need-array-borrow-prefix-state
 array-borrow-prefix-state c = omega (arith, few (c .before .before))
@@ -72,32 +89,29 @@ lamp-from-requires c κs =
     let h = c .before .before .before .before in
     let k = h .before .before in
     let e = k .before .before in
-    let s = e .before .before .before .before .before .before in
     record {
-      accepted = s .pre;
+      accepted = start-of (e .before) .pre;
       ranked = k .rank-sets .ensures;
-      fits = fits-in _ _ (sym (e .before .misfits .ensures) ∙ e .if2 .left);
+      fits = fits-in _ _ (fine e .1);
       source = front _ (few h);
       target = front _ (few h);
     }
 
-returns-3 : tie.Need-returns-3
-returns-3 c =
+returns-2 : tie.Need-returns-2
+returns-2 c =
     let w = c .before .before in
     let h = w .before .before .before .before .before in
     let e = h .before .before .before .before in
-    let o = e .before .before in
-    let s = o .before .before .before .before in
     let once = read-once refl (h .read-header .ensures) in
-    (rw once at (w .lamp-from .ensures)) ∙ sym (lamp-walks _ _ _ _ _ _ _ (s .pre .1) (o .if1 .left) (sym (e .before .misfits .ensures) ∙ e .if2 .left))
+    (rw once at (w .lamp-from .ensures)) ∙ sym (lamp-walks _ _ _ _ _ _ _ (start-of (e .before) .pre .1) (fine e .0) (fine e .1))
 
 pub light-accepted-spec : {M : Type 1} → statement M
 light-accepted-spec =
     tie.close
     (tie.spec
-    returns
     misfits-requires
-    returns-2
+    fault-of-requires
+    returns
     rank-sets-requires
     read-header-requires
     mul-width
@@ -107,4 +121,4 @@ light-accepted-spec =
     array-borrow-prefix-room
     slice-aggregate-lamp-from-3
     lamp-from-requires
-    returns-3)
+    returns-2)
