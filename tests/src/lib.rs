@@ -29,6 +29,7 @@ pub mod brute;
 pub mod builder;
 pub mod cases;
 pub mod coverage;
+pub mod cut;
 pub mod demands;
 pub mod examples;
 pub mod fields;

@@ -60,7 +60,7 @@ fn the_example_in_89_and_90_words() {
 fn the_echo_request_at_each_allowance() {
     let frame = echo_request(1);
     let answer = |allowance| classify(&frame.bytes, 0, &ECHO_RECORDS.concat(), 10, allowance);
-    let expect = |ended, sure, out, asked| Answer { ended, refusal: 0, sure, out, asked };
+    let expect = |ended, sure, out, asked| Answer { ended, refusal: 0, sure, out, asked, cut: 0 };
     assert_eq!(answer(0), expect(STOPPED, 0, 0, 0));
     assert_eq!(answer(1), expect(STOPPED, 1, 2, 1));
     assert_eq!(answer(2), expect(DONE, 5, 2, 2));

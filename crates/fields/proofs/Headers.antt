@@ -1,22 +1,22 @@
 -- The puts of a frame by what it has, and a header from its puts.
 -- Assumes nothing.
-use Prim.Native.Nat.{ℕ, _%_}
+use Prim.Native.Nat.{ℕ, _*_, _/_, _%_}
 use native.Mathlib.Omega.{arith}
 use mathlib.Core.Path.{_≡_, refl, sym, _∙_}
-use mathlib.Core.Bool.{true, false, true≢false}
+use mathlib.Core.Bool.{true, false, true≢false, _&&_}
 use mathlib.Core.List.{List, [], _∷_, _++_}
-use borrow.Author.Tests.{le-leb}
-use lib.Dec.{eqb}
+use borrow.Author.Tests.{leb-true, le-leb, eq-eqb}
+use lib.Dec.{leb, eqb}
 use lib.ListN.{length}
-use Rattle.residue.specs.laws.Choice.{by-cond, never}
+use Rattle.residue.specs.laws.Choice.{by-cond, never, both, first, second}
 use Rattle.residue.specs.declared.Reading.{Reading}
 use Rattle.residue.specs.declared.Reading.the-variants.{Absent, Value}
 use Rattle.fields.specs.declared.ipv4.Packet.{Packet}
 use Rattle.fields.specs.declared.ipv4.Packet.the-variants.{Nothing, Whole}
-use Rattle.fields.specs.Bytes.{two, part}
+use Rattle.fields.specs.Bytes.{byte, two, part}
 use Rattle.fields.specs.Puts.{Put}
 use Rattle.fields.specs.Ethernet.{ipStart, etherType, ethernet}
-use Rattle.fields.specs.Ipv4.{internet, transportStart, transportEnd, transport}
+use Rattle.fields.specs.Ipv4.{internet, version, headerLength, transportStart, transportEnd, transport}
 use Rattle.fields.specs.Fields.{puts}
 use Rattle.fields.specs.Header.{Header, presentSet}
 use Rattle.fields.specs.inner.Parts.{Added, Spans, typeIn, packetIn, packetPuts}
@@ -38,6 +38,21 @@ no-type f =
     by-cond (λ (r : Reading). r ≡ Absent → ethernet f ≡ false) (ethernet f)
     (λ h e. let z : _≡_ {A = ℕ} 0 1 = cc in absurd (omega arith))
     (λ h e. h)
+
+-- What the test of a header's first byte tells.
+pub no-first : (f : List ℕ) → (eqb (byte f ipStart / 16) 4 && leb 5 (byte f ipStart % 16)) ≡ false → internet f ≡ false
+unfolding version headerLength
+no-first f lacks =
+    never (internet f)
+    (λ (has : internet f ≡ true).
+    let known = internet-lengths f has in
+    true≢false (sym (both (eqb (byte f 14 / 16) 4) (leb 5 (byte f 14 % 16)) (eq-eqb _ 4 (known .four)) (le-leb 5 (byte f 14 % 16) (omega arith))) ∙ lacks))
+
+pub is-first : (f : List ℕ) → (eqb (byte f ipStart / 16) 4 && leb 5 (byte f ipStart % 16)) ≡ true → (eqb (version f) 4 ≡ true) × (leb 20 (headerLength f) ≡ true)
+unfolding version headerLength
+is-first f h =
+    let fours = leb-true 5 (byte f 14 % 16) (second (eqb (byte f 14 / 16) 4) (leb 5 (byte f 14 % 16)) h) in
+    (first (eqb (byte f 14 / 16) 4) (leb 5 (byte f 14 % 16)) h, le-leb 20 (4 * (byte f 14 % 16)) (omega arith))
 
 -- A packet and its transport part.
 pub record PacketAt (f : List ℕ) (start end : ℕ) : Type 0 where

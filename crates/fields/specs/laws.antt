@@ -4,3 +4,8 @@ pub mod Ipv4
 pub mod Header
 pub mod Values
 pub mod Agree
+pub mod Present
+pub mod Longer
+pub mod Grown
+pub mod Cut
+pub mod CutSet

@@ -1,6 +1,8 @@
 // The Ethernet header.
 ghost use mathlib.Core.Path.{_≡_};
+ghost use Rattle.fields.specs.Seen.{mayBeType};
 ghost use Rattle.fields.specs.inner.Parts.{typeIn};
+use crate::bytes::byte_at;
 use crate::bytes::two_at;
 use residue::Reading;
 
@@ -25,4 +27,14 @@ pub fn type_in(frame: &[u8]) -> Reading
         return Reading::Absent;
     }
     Reading::Value(number)
+}
+
+// Whether a frame that begins with these bytes could have field 0: its first byte decides.
+pub fn may_be_type(frame: &[u8]) -> bool
+    ensures { λ r. ⌜ r ≡ mayBeType (now (frame .entry)) ⌝ }
+{
+    if frame.len() <= TYPE_AT {
+        return true;
+    }
+    LEAST_TYPE / 256 <= byte_at(frame, TYPE_AT)
 }

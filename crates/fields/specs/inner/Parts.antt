@@ -4,20 +4,26 @@
 --   packetIn f         a packet that is whole, with the start and the end of its transport part
 --   packetPuts f a e   the fields of a packet whose transport part runs from a to e
 --   Spans f a e        the frame has room for a header, and a part from a to e
-use Prim.Native.Nat.{ℕ, _≤_}
+--   lacking f s        what of the fields that could be there is not in the set s
+--   carried f i        for each field up to 12 whether a part could have it whose protocol is byte i of the frame
+use Prim.Native.Nat.{ℕ, _-_, _^_, _≤_}
 use mathlib.Core.Path.{_≡_}
-use mathlib.Core.Bool.{cond}
-use mathlib.Core.List.{List, _++_}
+use mathlib.Core.Bool.{Bool, false, cond, _||_}
+use mathlib.Core.List.{List, [], _∷_, _++_}
+use lib.Bits.{bitAnd}
+use lib.Dec.{eqb}
 use lib.ListN.{length}
 use Rattle.residue.specs.declared.Reading.{Reading}
 use Rattle.residue.specs.declared.Reading.the-variants.{Absent, Value}
 use Rattle.fields.specs.declared.ipv4.Packet.{Packet}
 use Rattle.fields.specs.declared.ipv4.Packet.the-variants.{Nothing, Whole}
+use Rattle.sets.specs.Sets.{setOf}
 use Rattle.fields.specs.Bytes.{part}
 use Rattle.fields.specs.Puts.{Put}
 use Rattle.fields.specs.Ethernet.{etherType, ethernet}
 use Rattle.fields.specs.Ipv4.{internet, internetPuts, protocol, transportStart, transportEnd}
-use Rattle.fields.specs.Transport.{transportPuts}
+use Rattle.fields.specs.Transport.{tcp, udp, icmp, transportPuts}
+use Rattle.fields.specs.Seen.{could, chances}
 use Rattle.fields.specs.Header.{noted, filled}
 
 pub record Added (ps : List Put) (s : ℕ) (old : List ℕ) (r : ℕ) (new : List ℕ) : Type 0 where
@@ -37,3 +43,13 @@ pub record Spans (f : List ℕ) (a e : ℕ) : Type 0 where
   pub whole : 34 ≤ length f
   pub order : a ≤ e
   pub inside : e ≤ length f
+
+abbrev pub lacking : List ℕ → ℕ → ℕ
+lacking f s = bitAnd (setOf (chances f)) (2 ^ 32 - 1 - s)
+
+unfoldable pub carried : List ℕ → ℕ → List Bool
+carried f i =
+    let ports = could f i (λ q. eqb q tcp || eqb q udp) in
+    let flags = could f i (λ q. eqb q tcp) in
+    let echo = could f i (λ q. eqb q icmp) in
+    false ∷ false ∷ false ∷ false ∷ false ∷ false ∷ false ∷ false ∷ ports ∷ ports ∷ flags ∷ echo ∷ echo ∷ []

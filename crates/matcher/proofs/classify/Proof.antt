@@ -5,7 +5,7 @@ use mathlib.Core.Path.{refl, sym, _∙_}
 use borrow.Author.Needs.{needs}
 use borrow.Author.Tests.{lt-ltb, le-ltb}
 use Rattle.matcher.specs.laws.Walks.{walk-long, walk-none, walk-misfit, walk-fits}
-use Rattle.fields.specs.laws.Header.{read-once}
+use Rattle.fields.specs.laws.CutSet.{seen-once}
 use Rattle.matcher.proofs.classify.Statement.{statement}
 use Rattle.matcher.proofs.classify.Tie as tie
 
@@ -33,12 +33,14 @@ read-header-requires c κs = search needs
 
 walk-from-requires : tie.Need-walk-from-requires
 walk-from-requires c κs =
-    (pos-of-ne-zero (c .before .before .before .before .before .if2 .left), (c .before .before .before .before .if3 .left, c .before .before .before .if4 .left))
+    (pos-of-ne-zero (c .before .before .before .before .before .if2 .left), (c .before .before .before .before .if3 .left, (c .before .before .before .if4 .left, (_, c .before .read-header .ensures .set))))
 
 returns-5 : tie.Need-returns-5
 returns-5 c =
-    let once = read-once refl (c .before .before .read-header .ensures) in
-    let start = walk-fits _ _ _ _ _ (c .before .before .before .before .before .before .before .if1 .left) (c .before .before .before .before .before .before .if2 .left) (c .before .before .before .before .before .if3 .left) (c .before .before .before .before .if4 .left) in
+    let header = c .before .before in
+    let room = header .before .before in
+    let once = seen-once refl (header .read-header .ensures) refl in
+    let start = walk-fits _ _ _ _ _ (room .before .before .before .if1 .left) (room .before .before .if2 .left) (room .before .if3 .left) (room .if4 .left) in
     (rw once at (c .walk-from .ensures)) ∙ sym start
 
 pub classify-spec : {M : Type 1} → statement M
