@@ -1,6 +1,7 @@
 pub mod Bytes
 pub mod Fragments
 pub mod Ipv4
+pub mod Filling
 pub mod Header
 pub mod Values
 pub mod Agree

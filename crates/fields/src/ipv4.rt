@@ -4,9 +4,10 @@ ghost use mathlib.Core.Bool.{_&&_};
 ghost use Prim.Native.Nat.{_/_, _%_, _≤_};
 ghost use lib.Dec.{leb, eqb};
 ghost use lib.ListN.{length};
-ghost use Rattle.fields.specs.Ipv4.{internetPuts};
+ghost use Rattle.fields.specs.Puts.{onlyIf};
+ghost use Rattle.fields.specs.Ipv4.{internet, internetPuts};
 ghost use Rattle.fields.specs.Seen.{mayBeInternet, mayBegin};
-ghost use Rattle.fields.specs.inner.Parts.{Added, Spans, packetIn, packetPuts};
+ghost use Rattle.fields.specs.inner.Parts.{Added, packetIn, partPuts};
 use crate::Values;
 use crate::bytes::byte_at;
 use crate::bytes::could_be;
@@ -141,12 +142,25 @@ fn fill_header(frame: &[u8], present: u32, values: &mut Values) -> u32
     put(DESTINATION, four_at(frame, 30), set, values)
 }
 
-// The fields of a packet: the header's, and those of the transport part, which is read as a part of the frame.
-pub fn fill(frame: &[u8], start: usize, end: usize, present: u32, values: &mut Values) -> u32
-    requires { ⌜ Spans (now frame) start end ⌝ }
-    ensures { λ r. ⌜ Added (packetPuts (now (frame .entry)) start end) present (now (values .entry)) r (now (values .exit)) ⌝ }
+// The second step of reading a header: the packet's own fields, if the frame has one.
+pub fn read_internet(frame: &[u8], packet: Packet, present: u32, values: &mut Values) -> u32
+    requires { ⌜ packet ≡ packetIn (now frame) ⌝ }
+    ensures { λ r. ⌜ Added (onlyIf (internet (now (frame .entry))) (internetPuts (now (frame .entry)))) present (now (values .entry)) r (now (values .exit)) ⌝ }
 {
+    let Packet::Whole(_, _) = packet else {
+        return present;
+    };
+    fill_header(frame, present, values)
+}
+
+// The third step: the fields of its transport part, which is read as a part of the frame.
+pub fn read_transport(frame: &[u8], packet: Packet, present: u32, values: &mut Values) -> u32
+    requires { ⌜ packet ≡ packetIn (now frame) ⌝ }
+    ensures { λ r. ⌜ Added (partPuts (now (frame .entry))) present (now (values .entry)) r (now (values .exit)) ⌝ }
+{
+    let Packet::Whole(start, end) = packet else {
+        return present;
+    };
     let protocol = byte_at(frame, PROTOCOL_AT);
-    let set = fill_header(frame, present, values);
-    transport::fill(&frame[start..end], protocol, set, values)
+    transport::fill(&frame[start..end], protocol, present, values)
 }

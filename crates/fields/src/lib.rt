@@ -9,8 +9,6 @@ ghost use Rattle.fields.specs.inner.Sight.{seenAt};
 ghost use Rattle.fields.specs.inner.Parts.{lacking};
 use bytes::byte_at;
 use ethernet::ETHER_TYPE;
-use ipv4::Packet;
-use put::put;
 use residue::Reading;
 
 mod bytes;
@@ -20,6 +18,9 @@ mod put;
 mod transport;
 mod widths;
 
+pub use ethernet::read_ethernet;
+pub use ipv4::read_internet;
+pub use ipv4::read_transport;
 pub use widths::full_of;
 
 // How many fields there are, and the last one's number.
@@ -46,17 +47,10 @@ pub enum Seen {
 pub fn read_header(frame: &[u8], port: u8, values: &mut Values) -> u32
     ensures { λ r. ⌜ Header (now (frame .entry)) port (now (values .entry)) (now (values .exit)) r ⌝ }
 {
-    let mut present = put(BOX_PORT, port as u32, 0, values);
-    let Reading::Value(ether_type) = ethernet::type_in(frame) else {
-        return present;
-    };
-    // Looked for before the next store, so that the compiler need not load again what was just read.
-    let packet = ipv4::packet_in(frame);
-    present = put(ETHER_TYPE, ether_type, present, values);
-    let Packet::Whole(start, end) = packet else {
-        return present;
-    };
-    ipv4::fill(frame, start, end, present, values)
+    let begun = read_ethernet(frame, port, values);
+    let packet = begun.packet;
+    let set = read_internet(frame, packet, begun.present, values);
+    read_transport(frame, packet, set, values)
 }
 
 // Whether a field is in a set of fields.
@@ -90,6 +84,7 @@ pub fn cut_set(frame: &[u8], present: u32) -> u32
     requires { ⌜ ((p : ℕ) × (present ≡ presentSet (now frame) p)) ⌝ }
     ensures { λ r. ⌜ r ≡ lacking (now (frame .entry)) present ⌝ }
 {
+    let whole = &frame[..];
     if in_set(present, transport::TCP_FLAGS) {
         return 0;
     }
@@ -97,16 +92,16 @@ pub fn cut_set(frame: &[u8], present: u32) -> u32
         return 0;
     }
     if in_set(present, transport::DESTINATION_PORT) {
-        if byte_at(frame, ipv4::PROTOCOL_AT) != transport::TCP {
+        if byte_at(whole, ipv4::PROTOCOL_AT) != transport::TCP {
             return 0;
         }
     }
     if in_set(present, ipv4::PROTOCOL) {
-        if !ipv4::may_begin(frame) {
+        if !ipv4::may_begin(whole) {
             return 0;
         }
     }
-    possible_set(frame) & !present
+    possible_set(whole) & !present
 }
 
 // Field `number` by a header that was read: a bit of the set and a word.

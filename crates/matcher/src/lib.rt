@@ -4,7 +4,7 @@ ghost use Prim.Native.Nat.{ℕ, _+_, _-_, _*_, _<_, _≤_};
 ghost use lib.ListN.{length};
 ghost use Rattle.residue.specs.Tests.{holds};
 ghost use mathlib.Core.Bool.{false};
-ghost use Rattle.fields.specs.Header.{presentSet};
+ghost use Rattle.fields.specs.Header.{Header, presentSet};
 ghost use Rattle.fields.specs.inner.Sight.{seenAt};
 ghost use Rattle.fields.specs.inner.Parts.{lacking};
 ghost use Rattle.lists.specs.Filters.{testOf};
@@ -229,8 +229,19 @@ fn walk_from(
     }
 }
 
+// A header as `fields::read_header` reads it. Each of its steps is short enough that the compiler puts a copy of it here; all of them
+// together, which others call too, would be a call.
+fn read_header(frame: &[u8], port: u8, values: &mut Values) -> u32
+    ensures { λ r. ⌜ Header (now (frame .entry)) port (now (values .entry)) (now (values .exit)) r ⌝ }
+{
+    let begun = fields::read_ethernet(frame, port, values);
+    let packet = begun.packet;
+    let set = fields::read_internet(frame, packet, begun.present, values);
+    fields::read_transport(frame, packet, set, values)
+}
+
 // The answer for any frame, table and number of states. The number is held to the table's words by a product, which needs no division.
-pub fn classify(frame: &[u8], port: u8, table: &[u32], states: u32, allowance: u32) -> Answer
+fn walk_frame(frame: &[u8], port: u8, table: &[u32], states: u32, allowance: u32) -> Answer
     ensures { λ r. ⌜ r ≡ walk (now (frame .entry)) port (now (table .entry)) states allowance ⌝ }
 {
     if MAX_FRAME < frame.len() {
@@ -246,6 +257,14 @@ pub fn classify(frame: &[u8], port: u8, table: &[u32], states: u32, allowance: u
         return Answer::Refused(13);
     }
     let mut values = [0u32; FIELDS];
-    let present = fields::read_header(frame, port, &mut values);
+    let present = read_header(frame, port, &mut values);
     walk_from(frame, present, &values, table, states, allowance)
+}
+
+// The same, as a call. Frame and table are lent anew: the compiler hands a slice over in registers only to a function that takes parts of
+// it and does not pass it on.
+pub fn classify(frame: &[u8], port: u8, table: &[u32], states: u32, allowance: u32) -> Answer
+    ensures { λ r. ⌜ r ≡ walk (now (frame .entry)) port (now (table .entry)) states allowance ⌝ }
+{
+    walk_frame(&frame[..], port, &table[..], states, allowance)
 }
