@@ -1,7 +1,7 @@
 /*
  * Compiles three filters, classifies one frame with them, scans it by the list alone, asks whether any
- * filter matches it, judges it, and reads two fields of its beginning. From the repository root, once
- * the library is built:
+ * filter matches it, judges it, and looks at what is left where only its beginning arrives. From the
+ * repository root, once the library is built:
  *
  *   gcc -Wall -Iinclude examples/box.c target/staticlib/libfilterbox.a -o box && ./box
  *
@@ -82,10 +82,15 @@ int main(void) {
            " %" PRIu32 ", unmatched %" PRIu32 "\n",
            judged.refusal, judged.verdict, tallies[0], tallies[1], tallies[2],
            tallies[FILTERBOX_TALLIES - 1]);
-    /* The same frame, ended inside its IP header: has it no ports, or were they cut off? */
+    /* Only its first 24 bytes arrive, up to the protocol. The mark says that a question met a field
+       that was cut off: the ICMP type, which the whole frame has. Ports it has none either way. */
+    FilterboxAnswer answer =
+        filterbox_classify(frame, 24, 0, table, TABLE_WORDS, built.number, 2);
+    printf("24 bytes: %s, sure %" PRIu32 ", out %" PRIu32 ", asked %" PRIu32 ", cut %" PRIu32 "\n",
+           ended[answer.ended], answer.sure, answer.out, answer.asked, answer.cut);
     for (uint32_t number = 8; number <= 11; number += 3) {
-        FilterboxField field = filterbox_field(frame, 22, 0, number);
-        printf("field %" PRIu32 " of 22 bytes: %s\n", number, kind[field.kind]);
+        FilterboxField field = filterbox_field(frame, 24, 0, number);
+        printf("field %" PRIu32 " of 24 bytes: %s\n", number, kind[field.kind]);
     }
     return 0;
 }

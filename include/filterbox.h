@@ -67,7 +67,7 @@ typedef struct FilterboxAnswer {
     FilterboxSet sure; /* filters that are certainly in the match set */
     FilterboxSet out;  /* filters that are certainly not in it */
     uint32_t asked;    /* the number of questions asked */
-    uint32_t cut;     /* 1 where some question met a field that was cut off, else 0 */
+    uint32_t cut;      /* 1 where some question met a field that was cut off, else 0 */
 } FilterboxAnswer;
 
 /* Whether a field is there. */

@@ -34,8 +34,8 @@ pub mod demands;
 pub mod examples;
 pub mod fields;
 pub mod frames;
-pub mod lamp;
 pub mod gateway;
+pub mod lamp;
 #[cfg(feature = "library")]
 pub mod library;
 pub mod lists;

@@ -79,7 +79,8 @@ impl Library {
         if self.piped {
             let numbers = [u32::from(port), states, allowance];
             let rooms = &mut [Room::Bytes(frame), Room::Shown(table)];
-            let [ended, refusal, sure, out, asked, cut, ..] = self.call(pipe::CLASSIFY, &numbers, rooms);
+            let [ended, refusal, sure, out, asked, cut, ..] =
+                self.call(pipe::CLASSIFY, &numbers, rooms);
             return Answer { ended, refusal, sure, out, asked, cut };
         }
         shown(self.place, frame, |frame| {

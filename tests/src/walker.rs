@@ -42,7 +42,14 @@ pub fn classify(frame: &[u8], port: u8, table: &[u32], states: u32, allowance: u
         if final_state || asked == allowance {
             let ended = if final_state { DONE } else { STOPPED };
             let cut = u32::from(some_cut(frame, &absent));
-            return Answer { ended, refusal: 0, sure: record[SURE_AT], out: record[OUT_AT], asked, cut };
+            return Answer {
+                ended,
+                refusal: 0,
+                sure: record[SURE_AT],
+                out: record[OUT_AT],
+                asked,
+                cut,
+            };
         }
         let way = match readings[question.field as usize] {
             None => ABSENT_AT,
@@ -55,7 +62,7 @@ pub fn classify(frame: &[u8], port: u8, table: &[u32], states: u32, allowance: u
         // Only a question whose way has been taken counts.
         number = record[way];
         asked += 1;
-        if way == 6 {
+        if way == ABSENT_AT {
             absent.push(question.field as usize);
         }
     }

@@ -15,8 +15,9 @@ allowance 2: done, sure 5, out 2, asked 2, cut 0
 scanned: refusal 0, set 5
 lamp: refusal 0, lit 1, asked 1
 judged: refusal 0, verdict 2, tallies 1 0 0, unmatched 0
-field 8 of 22 bytes: cut
-field 11 of 22 bytes: cut
+24 bytes: done, sure 0, out 7, asked 2, cut 1
+field 8 of 24 bytes: none
+field 11 of 24 bytes: cut
 ";
 
 /// Warnings count as errors: the header is read by other people's compilers.

@@ -39,7 +39,7 @@ use Rattle.machine.specs.laws.Lawful.{states-distinct, states-reached, reached-
 use Rattle.states.specs.laws.Well.{well-start, well-follow}
 use Rattle.matcher.specs.declared.Answer.{Answer}
 use Rattle.matcher.specs.declared.Answer.the-variants.{Refused}
-use Rattle.matcher.specs.laws.Marks.{mark-stays}
+use Rattle.matcher.specs.laws.Marks.{mark-lasts}
 use Rattle.matcher.specs.Walk.{found, isDone, damaged, walk}
 use Rattle.scanner.specs.Scan.{scanned}
 use Rattle.scanner.specs.declared.Scanned.the-variants.{Matched}
@@ -172,4 +172,4 @@ field-seen f p n known = seen-as f p known n
 pub mark-kept :
     (f : List ℕ) (p : ℕ) (t : List ℕ) (m a a' : ℕ) → a ≤ a' → ((n : ℕ) → walk f p t m a' ≡ Refused n → ⊥) →
     found (walk f p t m a) .cut ≡ true → found (walk f p t m a') .cut ≡ true
-mark-kept = mark-stays
+mark-kept = mark-lasts

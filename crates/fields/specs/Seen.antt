@@ -5,6 +5,8 @@
 --   mayBegin        .. a transport part: the fragment's offset could be 0
 --   mayCarry f p    .. a transport part whose protocol passes p
 --   chances f       for each field whether such a frame could have it, by number
+--   possible f n    the same of field n; none above the last number
+--   seenOf b r      what the reading r is seen as, where b says whether such a frame could have the field
 --   seen f p n      field n; none above the last number
 --   isCut s         an answer is cut
 --   readingOf s     the reading of document 01, for which none and cut are one

@@ -1,15 +1,19 @@
 //! Fields that are missing and fields that were cut off (document 02, P7): each field of frames that
 //! end at every length, against a search for longer frames; and the mark of walks.
 
+use std::collections::BTreeSet;
+use std::fs;
+
 use filterbox_tests::coverage::Coverage;
 use filterbox_tests::cut::{glance, search, seen, Seen};
-use filterbox_tests::examples::test;
+use filterbox_tests::examples::{test, ECHO_RECORDS};
 use filterbox_tests::fields::{read, FIELDS, ICMP, NAMES, TCP, UDP};
-use filterbox_tests::frames::{fragment, hand_made, noise, Frame};
+use filterbox_tests::frames::{echo_request, fragment, hand_made, noise, Frame};
 use filterbox_tests::library::library;
 use filterbox_tests::random::Random;
 use filterbox_tests::rules::{words, Filter, AT_LEAST, EQUAL};
 use filterbox_tests::runner::Runner;
+use filterbox_tests::tools::root;
 use filterbox_tests::walker::{Answer, DONE, MOST_FRAME, REFUSED, STOPPED};
 
 use crate::support::{build_in_slots, classify_noted, Outcome};
@@ -26,9 +30,11 @@ pub fn run(runner: &mut Runner, coverage: &mut Coverage) {
     runner.check("fields_with_every_byte_that_decides", every_byte);
     runner.check("fields_of_random_frames_cut_anywhere", random_frames);
     runner.check("fields_of_frames_of_any_length", any_length);
+    runner.check("marks_of_walks_that_ask_one_field", || marks_of_one(coverage));
     runner.check("marks_of_walks_over_cut_frames", || marks(coverage));
     runner.check("marks_count_questions_whose_way_was_taken", || taken(coverage));
     runner.check("a_refusal_has_no_mark", || refusals(coverage));
+    runner.check("fields_and_marks_of_the_page", || page(coverage));
 }
 
 /// How often each field was a value, none and cut.
@@ -53,12 +59,6 @@ fn check(bytes: &[u8], port: u8, met: &mut Met) {
     }
 }
 
-fn every_prefix(bytes: &[u8], port: u8, met: &mut Met) {
-    for length in 0..=bytes.len() {
-        check(&bytes[..length], port, met);
-    }
-}
-
 /// Whole packets of each protocol with short and long headers, padded and not.
 fn packets() -> Vec<Vec<u8>> {
     let mut packets = Vec::new();
@@ -78,17 +78,28 @@ fn packets() -> Vec<Vec<u8>> {
     packets
 }
 
+/// What frames begin with that were made by hand, packets, first and later fragments: every length of
+/// each, and none twice.
+fn beginnings() -> Vec<Frame> {
+    let mut frames: Vec<Vec<u8>> = hand_made().into_iter().map(|(_, frame)| frame.bytes).collect();
+    frames.extend(packets());
+    frames
+        .extend([0, 1, 0x2000, 0x1FFF, 0x20FF, 0x0100].map(|place| fragment(place, TCP, 5).bytes));
+    let cut = |bytes: &Vec<u8>| (0..=bytes.len()).map(|n| bytes[..n].to_vec()).collect::<Vec<_>>();
+    let all: BTreeSet<Vec<u8>> = frames.iter().flat_map(cut).collect();
+    all.into_iter().map(|bytes| Frame { bytes, port: 3 }).collect()
+}
+
 fn every_length() {
     let met = &mut Met::default();
-    for (_, frame) in hand_made().into_iter().filter(|(_, frame)| frame.bytes.len() <= 200) {
-        every_prefix(&frame.bytes, frame.port, met);
+    for frame in beginnings() {
+        check(&frame.bytes, frame.port, met);
     }
-    for packet in packets() {
-        every_prefix(&packet, 3, met);
-    }
-    for place in [0, 1, 0x2000, 0x1FFF, 0x20FF, 0x0100] {
-        every_prefix(&fragment(place, TCP, 5).bytes, 3, met);
-    }
+    all_kinds(met);
+}
+
+/// Each field was none, a value and cut; the box port is given with every frame.
+fn all_kinds(met: &Met) {
     for (field, [none, value, cut]) in met.iter().enumerate() {
         let some = *value > 0 && (field == 13 || *none > 0 && *cut > 0);
         assert!(some, "{}: {none} none, {value} values, {cut} cut", NAMES[field]);
@@ -137,7 +148,8 @@ fn random_frames() {
 /// Reading a field refuses no length.
 fn any_length() {
     let met = &mut Met::default();
-    for length in [MOST_FRAME, MOST_FRAME + 1, 4_000] {
+    let greatest = 14 + usize::from(u16::MAX);
+    for length in [MOST_FRAME, MOST_FRAME + 1, 4_000, greatest - 1, greatest, 70_000] {
         for total in [40u16, 1_508, 1_509, 3_986, 0xFFFF] {
             let mut bytes = vec![7; length];
             bytes[12..15].copy_from_slice(&[8, 0, 0x45]);
@@ -148,31 +160,60 @@ fn any_length() {
     }
 }
 
-/// A list that asks every field whether it is there, one filter a field.
-fn asks_all(coverage: &mut Coverage) -> Outcome {
-    let alone = |field| Filter { group: field, level: 0, tests: vec![test(AT_LEAST, field, 0, 0)] };
-    let filters: Vec<Filter> = [0, 5, 8, 9, 10, 11, 12].into_iter().map(alone).collect();
+/// A table that asks of these fields in turn whether they are there, one filter a field.
+fn asks(fields: &[u32], coverage: &mut Coverage) -> Outcome {
+    let alone =
+        |&field| Filter { group: field, level: 0, tests: vec![test(AT_LEAST, field, 0, 0)] };
+    let filters: Vec<Filter> = fields.iter().map(alone).collect();
     build_in_slots(&words(&filters), 255, coverage)
 }
 
-/// Every allowance over every prefix; support compares each answer with the reference's walk.
+/// Each field asked alone of every beginning: the mark is that of the field, and there is none before
+/// the question is asked. Support compares each answer with the reference's walk as well.
+fn marks_of_one(coverage: &mut Coverage) {
+    let met = &mut Met::default();
+    let frames: Vec<Frame> =
+        beginnings().into_iter().filter(|frame| frame.bytes.len() <= 100).collect();
+    for field in 0..FIELDS as u32 {
+        let built = asks(&[field], coverage);
+        for frame in &frames {
+            let kind = library().field(&frame.bytes, frame.port, field).kind;
+            for allowance in [0, 1] {
+                let answer =
+                    classify_noted(frame, &built.table, built.states(), allowance, coverage);
+                let should = u32::from(allowance == 1 && kind == CUT);
+                assert_eq!(
+                    answer.cut, should,
+                    "field {field}, allowance {allowance}: {frame:02x?}"
+                );
+            }
+            met[field as usize][kind as usize] += 1;
+        }
+    }
+    all_kinds(met);
+}
+
+/// Every allowance over every prefix of whole packets. A greater allowance never clears the mark, and
+/// each question that can be the first to meet a cut field is so: both ports are cut or none is.
 fn marks(coverage: &mut Coverage) {
-    let built = asks_all(coverage);
-    let mut marked = [0u64; 2];
+    let fields = [0, 5, 8, 9, 10, 11, 12];
+    let built = asks(&fields, coverage);
+    let mut first = [0u64; 8];
     for packet in packets() {
         for length in 0..=packet.len() {
             let frame = Frame { bytes: packet[..length].to_vec(), port: 0 };
-            let mut mark = 0;
-            for allowance in 0..=8 {
-                let answer =
-                    classify_noted(&frame, &built.table, built.states(), allowance, coverage);
-                assert!(answer.cut >= mark, "a greater allowance cleared the mark");
-                mark = answer.cut;
-            }
-            marked[mark as usize] += 1;
+            let marks = [0, 1, 2, 3, 4, 5, 6, 7, 8].map(|allowance| {
+                classify_noted(&frame, &built.table, built.states(), allowance, coverage).cut
+            });
+            assert!(marks.windows(2).all(|pair| pair[0] <= pair[1]), "{marks:?} for {frame:02x?}");
+            let by = (1..marks.len()).find(|&allowance| marks[allowance] == 1);
+            first[by.map_or(fields.len(), |allowance| allowance - 1)] += 1;
         }
     }
-    assert!(marked.iter().all(|&count| count > 400), "{marked:?}");
+    for (question, &count) in first.iter().enumerate() {
+        let second_port = fields.get(question) == Some(&9);
+        assert_eq!(count == 0, second_port, "first marked by each question, or by none: {first:?}");
+    }
 }
 
 /// A UDP frame cut before its ports: the first question meets no cut field, the second one does.
@@ -211,4 +252,50 @@ fn refusals(coverage: &mut Coverage) {
     let long = Frame { bytes: vec![0; MOST_FRAME + 1], port: 0 };
     let refused = Answer { refusal: 12, ..refused };
     assert_eq!(classify_noted(&long, &damaged, 2, 5, coverage), refused);
+}
+
+/// The tables and the walk of the technicians' page are what the library answers.
+fn page(coverage: &mut Coverage) {
+    let page = fs::read_to_string(root().join("docs/TECHNICIANS.md")).expect("the page");
+    let echo = echo_request(1).bytes;
+    let changed = |at: usize, bytes: &[u8]| {
+        let mut frame = echo.clone();
+        frame[at..at + bytes.len()].copy_from_slice(bytes);
+        frame
+    };
+    let mut padded = changed(23, &[UDP as u8]);
+    padded[16..18].copy_from_slice(&[0, 23]);
+    padded.resize(60, 0);
+    let mut later = changed(23, &[UDP as u8]);
+    later[20..22].copy_from_slice(&[0, 1]);
+    let mut arp = changed(12, &[8, 6]);
+    arp.resize(60, 0);
+    for (name, frame) in [
+        ("its first 20 bytes", &echo[..20]),
+        ("its first 24 bytes", &echo[..24]),
+        ("its first 34 bytes", &echo[..34]),
+        ("all 42 bytes", &echo),
+        ("UDP, total length 23, padded to 60 bytes", &padded),
+        ("UDP, a later fragment", &later),
+        ("ARP, 60 bytes", &arp),
+    ] {
+        let start = format!("| {name}");
+        let row = page.lines().find(|line| line.starts_with(&start)).expect(name);
+        let cells: Vec<&str> = row.split('|').skip(2).map(str::trim).collect();
+        for (number, cell) in [5, 9, 11].into_iter().zip(cells) {
+            let field = library().field(frame, 0, number);
+            let word = match field.kind {
+                NONE => "none".to_string(),
+                CUT => "cut".to_string(),
+                _ => field.value.to_string(),
+            };
+            assert_eq!(cell.split([':', ' ']).next(), Some(&word[..]), "field {number}: {row}");
+        }
+    }
+    for (bytes, cut) in [(echo[..34].to_vec(), 1), (arp, 0)] {
+        let frame = Frame { bytes, port: 0 };
+        let answer = classify_noted(&frame, &ECHO_RECORDS.concat(), 10, 4, coverage);
+        assert_eq!(answer, Answer { ended: DONE, refusal: 0, sure: 0, out: 7, asked: 2, cut });
+    }
+    assert!(page.contains("sure {}, out {0, 1, 2}, 2 questions, cut 1"));
 }

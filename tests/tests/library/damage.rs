@@ -230,7 +230,8 @@ fn circle(coverage: &mut Coverage) {
     let frame = Frame { bytes: Vec::new(), port: 9 };
     for allowance in [0, 1, 2, 1000, 1_000_000] {
         let answer = classify_noted(&frame, &table, 1, allowance, coverage);
-        let should = Answer { ended: STOPPED, refusal: 0, sure: 3, out: 5, asked: allowance, cut: 0 };
+        let should =
+            Answer { ended: STOPPED, refusal: 0, sure: 3, out: 5, asked: allowance, cut: 0 };
         assert_eq!(answer, should);
     }
 }

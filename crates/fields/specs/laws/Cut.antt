@@ -22,7 +22,7 @@ use Rattle.fields.specs.Fields.{field}
 use Rattle.fields.specs.Cut.{Possible, SeenAs}
 use Rattle.fields.specs.Seen.{could, mayBeType, mayBeInternet, chances, possible, seenOf, seen, readingOf}
 use Rattle.fields.specs.laws.Present.{shape, present-at}
-use Rattle.fields.specs.laws.Longer.{by-number, longer-so}
+use Rattle.fields.specs.laws.Longer.{_also_, no-more, by-number, longer-so}
 use Rattle.fields.specs.laws.Grown.{grown, grown-grows, grown-type, grown-internet, grown-carries}
 
 clash : {r : Reading} {x : ℕ} → r ≡ Value x → r ≡ Absent → ⊥
@@ -68,46 +68,25 @@ module _ (f : List ℕ) (p : ℕ) where
         let six = shown-by tcp (omega arith) in
         let one = shown-by icmp (omega arith) in
         let header = grown-internet f tcp in
-        by-number (λ (n : ℕ). Possible f p n) (chances f) (
-          (λ h. six 0 (grown-type f tcp h)),
-          (
-            (λ h. six 1 (header h)),
-            (
-              (λ h. six 2 (header h)),
-              (
-                (λ h. six 3 (header h)),
-                (
-                  (λ h. six 4 (header h)),
-                  (
-                    (λ h. six 5 (header h)),
-                    (
-                      (λ h. six 6 (header h)),
-                      (
-                        (λ h. six 7 (header h)),
-                        (
-                          (λ h. six 8 (grown-carries f tcp (λ q. eqb q tcp || eqb q udp) 4 refl (omega arith) h)),
-                          (
-                            (λ h. six 9 (grown-carries f tcp (λ q. eqb q tcp || eqb q udp) 4 refl (omega arith) h)),
-                            (
-                              (λ h. six 10 (grown-carries f tcp (λ q. eqb q tcp) 14 refl (omega arith) h)),
-                              (
-                                (λ h. one 11 (grown-carries f icmp (λ q. eqb q icmp) 1 refl (omega arith) h)),
-                                (
-                                  (λ h. one 12 (grown-carries f icmp (λ q. eqb q icmp) 2 refl (omega arith) h)),
-                                  ((λ h. six 13 refl), tt),
-                                ),
-                              ),
-                            ),
-                          ),
-                        ),
-                      ),
-                    ),
-                  ),
-                ),
-              ),
-            ),
-          ),
-        )
+        let ports = grown-carries f tcp (λ q. eqb q tcp || eqb q udp) 4 refl (omega arith) in
+        let flags = grown-carries f tcp (λ q. eqb q tcp) 14 refl (omega arith) in
+        let type = grown-carries f icmp (λ q. eqb q icmp) 1 refl (omega arith) in
+        let code = grown-carries f icmp (λ q. eqb q icmp) 2 refl (omega arith) in
+        by-number (λ (n : ℕ). Possible f p n) (chances f)
+        ((λ h. six 0 (grown-type f tcp h)) also
+        (λ h. six 1 (header h)) also
+        (λ h. six 2 (header h)) also
+        (λ h. six 3 (header h)) also
+        (λ h. six 4 (header h)) also
+        (λ h. six 5 (header h)) also
+        (λ h. six 6 (header h)) also
+        (λ h. six 7 (header h)) also
+        (λ h. six 8 (ports h)) also
+        (λ h. six 9 (ports h)) also
+        (λ h. six 10 (flags h)) also
+        (λ h. one 11 (type h)) also
+        (λ h. one 12 (code h)) also
+        (λ h. six 13 refl) also no-more)
 
     as-of : (n : ℕ) (b : Bool) → possible f n ≡ b → (r : Reading) → field f p n ≡ r → SeenAs f p n (seenOf b r)
     unfolding SeenAs seenOf

@@ -18,15 +18,16 @@ use Rattle.fields.specs.laws.Ipv4.{internet-lengths}
 use Rattle.fields.specs.laws.Fragments.{later-part}
 use Rattle.fields.specs.laws.Present.{shape}
 
--- What is to be shown of each number where a list has true there, number by number.
-abbrev pub AtEach : (ℕ → Type 0) → List Bool → Type 0
-AtEach Q [] = Unit
-AtEach Q (b ∷ bs) = (b ≡ true → Q 0) × AtEach (λ (n : ℕ). Q (suc n)) bs
+-- What is shown of each number where a list has true there, number by number.
+infixr 5 _also_
+pub data AtEach : (ℕ → Type 0) → List Bool → Type 1 where
+  no-more : {Q : ℕ → Type 0} → AtEach Q []
+  _also_ : {Q : ℕ → Type 0} {b : Bool} {bs : List Bool} → (b ≡ true → Q 0) → AtEach (λ (n : ℕ). Q (suc n)) bs → AtEach Q (b ∷ bs)
 
 pub by-number : (Q : ℕ → Type 0) (bs : List Bool) → AtEach Q bs → (n : ℕ) → getD bs n false ≡ true → Q n
-by-number Q [] all n h = absurd (false≢true h)
-by-number Q (b ∷ bs) all zero h = all .0 h
-by-number Q (b ∷ bs) all (suc n) h = by-number (λ (m : ℕ). Q (suc m)) bs (all .1) n h
+by-number Q [] no-more n h = absurd (false≢true h)
+by-number Q (b ∷ bs) (this also others) zero h = this h
+by-number Q (b ∷ bs) (this also others) (suc n) h = by-number (λ (m : ℕ). Q (suc m)) bs others n h
 
 -- A transport part that is not empty is that of a fragment with offset 0.
 begins : (g : List ℕ) → 1 ≤ length (transport g) → two g 20 % 8192 ≡ 0
@@ -84,43 +85,12 @@ module _ {f g : List ℕ} (grows : Grows f g) where
   pub longer-so : (n : ℕ) → getD (shape g) n false ≡ true → possible f n ≡ true
   unfolding possible chances shape
   longer-so =
-      by-number (λ (n : ℕ). getD (chances f) n false ≡ true) (shape g) (
-        type-so,
-        (
-          internet-so,
-          (
-            internet-so,
-            (
-              internet-so,
-              (
-                internet-so,
-                (
-                  internet-so,
-                  (
-                    internet-so,
-                    (
-                      internet-so,
-                      (
-                        carry-so (λ q. eqb q tcp || eqb q udp) 4 (omega arith),
-                        (
-                          carry-so (λ q. eqb q tcp || eqb q udp) 4 (omega arith),
-                          (
-                            carry-so (λ q. eqb q tcp) 14 (omega arith),
-                            (
-                              carry-so (λ q. eqb q icmp) 1 (omega arith),
-                              (
-                                carry-so (λ q. eqb q icmp) 2 (omega arith),
-                                ((λ h. refl), tt),
-                              ),
-                            ),
-                          ),
-                        ),
-                      ),
-                    ),
-                  ),
-                ),
-              ),
-            ),
-          ),
-        ),
-      )
+      let ports = carry-so (λ q. eqb q tcp || eqb q udp) 4 (omega arith) in
+      let flags = carry-so (λ q. eqb q tcp) 14 (omega arith) in
+      let type = carry-so (λ q. eqb q icmp) 1 (omega arith) in
+      let code = carry-so (λ q. eqb q icmp) 2 (omega arith) in
+      by-number (λ (n : ℕ). getD (chances f) n false ≡ true) (shape g)
+      (type-so also
+      internet-so also internet-so also internet-so also internet-so also internet-so also internet-so also internet-so also
+      ports also ports also flags also type also code also
+      (λ h. refl) also no-more)

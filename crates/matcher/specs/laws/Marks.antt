@@ -1,7 +1,7 @@
 -- The mark of a walk (document 02, P7), over any table.
 --   Kept w       the answer w is refused, or has the mark
---   mark-kept    a walk that has the mark keeps it
---   mark-stays   a greater allowance that is not refused may set it and never clears it
+--   kept-on      a walk that has the mark keeps it
+--   mark-lasts   a greater allowance that is not refused may set it and never clears it
 use Prim.Native.Nat.{ℕ, zero, suc, _+_, _≤_}
 use native.Mathlib.Nat.{not-suc-le-zero, le-of-suc-le-suc}
 use mathlib.Core.Path.{_≡_, refl, sym, _∙_}
@@ -49,29 +49,29 @@ unfolding onward
 later-onward true on on' o h = o h
 later-onward false on on' o h = kept-refused 13
 
-unmarked : (d z : Bool) (x : Found) → x .cut ≡ false → found (arrive d z (Done x) (Stopped x)) .cut ≡ false
+none-marked : (d z : Bool) (x : Found) → x .cut ≡ false → found (arrive d z (Done x) (Stopped x)) .cut ≡ false
 unfolding arrive
-unmarked true z x e = refl
-unmarked false true x e = e
-unmarked false false x e = e
+none-marked true z x e = refl
+none-marked false true x e = e
+none-marked false false x e = e
 
 module _ (t : List ℕ) (m : ℕ) (v : ℕ → Seen) where
-  mark-kept : (a k n : ℕ) → Kept (walkFrom t m v a k true n)
+  kept-on : (a k n : ℕ) → Kept (walkFrom t m v a k true n)
   unfolding walkFrom foundAt
-  mark-kept zero k n =
+  kept-on zero k n =
       let x = foundAt t n k true in
       kept-arrive (damaged t n) (eqb (wordOf t n kindAt) 0) (Done x) (Stopped x) (kept-done x refl) (kept-stopped x refl)
-  mark-kept (suc a) k n =
+  kept-on (suc a) k n =
       let x = foundAt t n k true in
       let rest = walkFrom t m v a (k + 1) true (nextOf t v n) in
       kept-arrive (damaged t n) (eqb (wordOf t n kindAt) 0) (Done x) (onward (ltb (nextOf t v n) m) rest) (kept-done x refl)
-      (kept-onward (ltb (nextOf t v n) m) rest (mark-kept a (k + 1) (nextOf t v n)))
+      (kept-onward (ltb (nextOf t v n) m) rest (kept-on a (k + 1) (nextOf t v n)))
 
   mark-later : (a a' k : ℕ) (b : Bool) (n : ℕ) → a ≤ a' → found (walkFrom t m v a k b n) .cut ≡ true → Kept (walkFrom t m v a' k b n)
   unfolding walkFrom foundAt
-  mark-later zero a' k true n l h = mark-kept a' k n
+  mark-later zero a' k true n l h = kept-on a' k n
   mark-later zero a' k false n l h =
-      absurd (false≢true (sym (unmarked (damaged t n) (eqb (wordOf t n kindAt) 0) (foundAt t n k false) refl) ∙ h))
+      absurd (false≢true (sym (none-marked (damaged t n) (eqb (wordOf t n kindAt) 0) (foundAt t n k false) refl) ∙ h))
   mark-later (suc a) zero k b n l h = absurd (not-suc-le-zero l)
   mark-later (suc a) (suc a') k b n l h =
       let inside = ltb (nextOf t v n) m in
@@ -88,11 +88,11 @@ kept-mark (kept-done x h) some = h
 kept-mark (kept-stopped x h) some = h
 kept-mark (kept-refused n) some = absurd (some n refl)
 
-pub mark-stays :
+pub mark-lasts :
     (f : List ℕ) (p : ℕ) (t : List ℕ) (m a a' : ℕ) → a ≤ a' → ((n : ℕ) → walk f p t m a' ≡ Refused n → ⊥) →
     found (walk f p t m a) .cut ≡ true → found (walk f p t m a') .cut ≡ true
 unfolding walk
-mark-stays f p t m a a' more some h = kept-mark (go (ltb maxFrame (length f)) (eqb m 0 || ltb (slotsOf t) m) h) some
+mark-lasts f p t m a a' more some h = kept-mark (go (ltb maxFrame (length f)) (eqb m 0 || ltb (slotsOf t) m) h) some
   where
     go : (b c : Bool) →
         found (cond b (Refused 12) (cond c (Refused 13) (walkFrom t m (seen f p) a 0 false 0))) .cut ≡ true →
