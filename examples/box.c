@@ -1,6 +1,7 @@
 /*
  * Compiles three filters, classifies one frame with them, scans it by the list alone, asks whether any
- * filter matches it, and judges it. From the repository root, once the library is built:
+ * filter matches it, judges it, and looks at what is left where only its beginning arrives. From the
+ * repository root, once the library is built:
  *
  *   gcc -Wall -Iinclude examples/box.c target/staticlib/libfilterbox.a -o box && ./box
  *
@@ -44,6 +45,7 @@ static uint32_t table[TABLE_WORDS];
 static uint32_t tallies[FILTERBOX_TALLIES];
 
 static const char *const ended[] = {"refused", "done", "stopped"};
+static const char *const kind[] = {"none", "value", "cut"};
 
 int main(void) {
     size_t scratch_words = (size_t)SLOTS * filterbox_scratch_words();
@@ -61,8 +63,9 @@ int main(void) {
     for (uint32_t allowance = 0; allowance <= 2; allowance++) {
         FilterboxAnswer answer =
             filterbox_classify(frame, sizeof frame, 0, table, TABLE_WORDS, built.number, allowance);
-        printf("allowance %" PRIu32 ": %s, sure %" PRIu32 ", out %" PRIu32 ", asked %" PRIu32 "\n",
-               allowance, ended[answer.ended], answer.sure, answer.out, answer.asked);
+        printf("allowance %" PRIu32 ": %s, sure %" PRIu32 ", out %" PRIu32 ", asked %" PRIu32
+               ", cut %" PRIu32 "\n",
+               allowance, ended[answer.ended], answer.sure, answer.out, answer.asked, answer.cut);
     }
     FilterboxScanned scanned =
         filterbox_scan(list, sizeof list / sizeof *list, frame, sizeof frame, 0);
@@ -79,5 +82,15 @@ int main(void) {
            " %" PRIu32 ", unmatched %" PRIu32 "\n",
            judged.refusal, judged.verdict, tallies[0], tallies[1], tallies[2],
            tallies[FILTERBOX_TALLIES - 1]);
+    /* Only its first 24 bytes arrive, up to the protocol. The mark says that a question met a field
+       that was cut off: the ICMP type, which the whole frame has. Ports it has none either way. */
+    FilterboxAnswer answer =
+        filterbox_classify(frame, 24, 0, table, TABLE_WORDS, built.number, 2);
+    printf("24 bytes: %s, sure %" PRIu32 ", out %" PRIu32 ", asked %" PRIu32 ", cut %" PRIu32 "\n",
+           ended[answer.ended], answer.sure, answer.out, answer.asked, answer.cut);
+    for (uint32_t number = 8; number <= 11; number += 3) {
+        FilterboxField field = filterbox_field(frame, 24, 0, number);
+        printf("field %" PRIu32 " of 24 bytes: %s\n", number, kind[field.kind]);
+    }
     return 0;
 }

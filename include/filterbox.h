@@ -67,7 +67,21 @@ typedef struct FilterboxAnswer {
     FilterboxSet sure; /* filters that are certainly in the match set */
     FilterboxSet out;  /* filters that are certainly not in it */
     uint32_t asked;    /* the number of questions asked */
+    uint32_t cut;      /* 1 where some question met a field that was cut off, else 0 */
 } FilterboxAnswer;
+
+/* Whether a field is there. */
+enum {
+    FILTERBOX_NONE = 0,  /* the frame has none, and would have none if it went on */
+    FILTERBOX_VALUE = 1, /* it has this value */
+    FILTERBOX_CUT = 2    /* the frame has none, but ends before it is known, or its total length is too small */
+};
+
+/* What reading a field answers. */
+typedef struct FilterboxField {
+    uint32_t kind;  /* FILTERBOX_NONE, FILTERBOX_VALUE or FILTERBOX_CUT */
+    uint32_t value; /* 0 unless FILTERBOX_VALUE */
+} FilterboxField;
 
 /*
  * Compiles a list into a table.
@@ -110,8 +124,8 @@ FilterboxBuilt filterbox_build(const uint32_t *list, size_t list_len, uint32_t *
  * in words.
  * allowance: the most questions that may be asked, any number.
  *
- * Answers done or stopped with the two sets and the number of questions asked, or one of these
- * refusals with zeros there:
+ * Answers done or stopped with the two sets, the number of questions asked and the mark of cut
+ * fields, or one of these refusals with zeros there:
  *
  *   12  the frame is longer than FILTERBOX_MOST_FRAME bytes
  *   13  the table is damaged: the number of states is 0 or above the slots, or a record on the way
@@ -207,6 +221,17 @@ FilterboxJudged filterbox_judge(const uint8_t *frame, size_t frame_len, uint8_t 
 
 /* Makes every word of tallies 0, whatever its length. */
 void filterbox_clear(uint32_t *tallies, size_t tallies_len);
+
+/*
+ * Reads one field of a frame, for support: its value, none, or cut. Cut says that the frame lacks
+ * the field, but that some longer frame which begins with the same bytes has it, the two bytes of
+ * the IP total length alone being free to change.
+ *
+ * frame and port: as for filterbox_classify, but a frame of any length is read; number: a field, 0
+ * to 13; above them there is none. Nothing lent is written.
+ */
+FilterboxField filterbox_field(const uint8_t *frame, size_t frame_len, uint8_t port,
+                               uint32_t number);
 
 /* Answers the number of scratch words that building takes for each slot of the table. */
 uint32_t filterbox_scratch_words(void);

@@ -26,7 +26,7 @@ NAME = r'[^\s(){}.;,@"«»]+'
 USE = re.compile(r"^((?:unfoldable |pub |ghost )*)use ([^\s{;]+?)(?:(?:\.|::)\{([^}]*)\}| as ([^\s;]+))?;?$", re.M)
 HEAD = re.compile(rf"((?:unfoldable |abbrev |axiom |pub )*)(record |data |ruleset )?({NAME})(?: \{{[^}}]*\}})?( :)?")
 LABEL = re.compile(rf"(?:^ *(?:pub )?|(?<=[{{;]) *){NAME} (?=[:=](?:\s|$))|(?<=[({{])(?:{NAME} )+(?=:\s)", re.M)
-UNREAD = re.compile(r"(unfoldable |abbrev )*(mutual|infix[lr]?)\b")
+UNREAD = re.compile(r"(unfoldable |abbrev )*mutual\b")
 PROGRAM = re.compile(r'(pub )?(?:extern "C" )?(enum|struct|type|const|fn) (\w+)')
 
 
@@ -113,7 +113,7 @@ class File:
         blocks, item, opening = [], None, None      # a block: the lines of its parameters, and the column of what it holds
         for n, line in enumerate(self.code, 1):
             text, column = line.strip(), len(line) - len(line.lstrip())
-            if not text or re.match(r"(pub )?mod ", text):
+            if not text or re.match(r"(pub )?mod |infix[lr]? ", text):
                 continue
             if opening is None:
                 blocks = [(a, b, inner or column) for a, b, inner in blocks if inner is None or inner <= column]

@@ -574,10 +574,38 @@ fn read_transport(header: &mut Header, protocol: u8, part: &[u8]) {
     }
 }
 
+/// The fields that a frame which goes on could have: a byte behind the end may be any, and so may
+/// the total length.
+pub fn possible(frame: &[u8]) -> u32 {
+    let could = |at: usize, fits: fn(u8) -> bool| frame.get(at).map_or(true, |&byte| fits(byte));
+    let mut set = 1 << 13;
+    if !could(12, |byte| byte >= 6) {
+        return set;
+    }
+    set |= 1;
+    if !could(12, |byte| byte == 8) || !could(13, |byte| byte == 0) {
+        return set;
+    }
+    if !could(14, |byte| (0x45..=0x4F).contains(&byte)) {
+        return set;
+    }
+    set |= 0xFE;
+    if could(20, |byte| byte & 0x1F == 0) && could(21, |byte| byte == 0) {
+        set |= match frame.get(23) {
+            None => 0x1F00,
+            Some(1) => 0x1800,
+            Some(6) => 0x0700,
+            Some(17) => 0x0300,
+            Some(_) => 0,
+        };
+    }
+    set
+}
+
 /// Walks a frame through a table.
 #[inline(never)]
 pub fn classify(frame: &[u8], port: u8, table: &[u32], states: u32, allowance: u32) -> Answer {
-    let refused = |refusal| Answer { ended: 0, refusal, sure: 0, out: 0, asked: 0 };
+    let refused = |refusal| Answer { ended: 0, refusal, sure: 0, out: 0, asked: 0, cut: 0 };
     if frame.len() > MOST_FRAME {
         return refused(12);
     }
@@ -587,6 +615,7 @@ pub fn classify(frame: &[u8], port: u8, table: &[u32], states: u32, allowance: u
     let header = read_header(frame, port);
     let mut number = 0;
     let mut asked = 0;
+    let mut absent = 0;
     loop {
         let record = &table[number as usize * RECORD..][..RECORD];
         let test = Test::from(record);
@@ -595,7 +624,8 @@ pub fn classify(frame: &[u8], port: u8, table: &[u32], states: u32, allowance: u
         }
         if test.kind == 0 || asked == allowance {
             let ended = if test.kind == 0 { 1 } else { 2 };
-            return Answer { ended, refusal: 0, sure: record[SURE_AT], out: record[OUT_AT], asked };
+            let cut = u32::from(absent != 0 && absent & possible(frame) != 0);
+            return Answer { ended, refusal: 0, sure: record[SURE_AT], out: record[OUT_AT], asked, cut };
         }
         let field = test.field as usize;
         let next = if header.present >> field & 1 == 0 {
@@ -610,6 +640,7 @@ pub fn classify(frame: &[u8], port: u8, table: &[u32], states: u32, allowance: u
         }
         number = next;
         asked += 1;
+        absent |= !header.present & 1 << field;
     }
 }
 

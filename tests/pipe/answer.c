@@ -30,6 +30,7 @@ enum {
     LAMP = 5,
     JUDGE = 6,
     CLEAR = 7,
+    FIELD = 8,
     NOTHING = 254,
     OVERRUN = 255
 };
@@ -197,6 +198,7 @@ static void call(void) {
         answer[2] = found.sure;
         answer[3] = found.out;
         answer[4] = found.asked;
+        answer[5] = found.cut;
         break;
     }
     case SCAN: {
@@ -205,6 +207,12 @@ static void call(void) {
         answer[0] = scanned.refusal;
         answer[1] = scanned.filter;
         answer[2] = scanned.set;
+        break;
+    }
+    case FIELD: {
+        FilterboxField field = filterbox_field(room[0], head.bytes[0], (uint8_t)n[0], n[1]);
+        answer[0] = field.kind;
+        answer[1] = field.value;
         break;
     }
     case LAMP: {

@@ -31,6 +31,8 @@ pub struct Coverage {
     kinds: [[u64; 3]; 4],
     fields: [[u64; 3]; FIELDS],
     ended: [u64; 3],
+    /// Answers that are not refused, without the mark of cut fields and with it.
+    marks: [u64; 2],
     /// Lamps lit, dark, and those lit while no filter was sure; and those refused with 13.
     lamps: [u64; 3],
     damaged_lamps: u64,
@@ -91,7 +93,8 @@ impl Coverage {
         }
         self.near[0] += pairs(states.iter().map(|(state, _)| &state[1..]));
         self.near[1] += pairs(states.iter().map(|(state, _)| &state[..state.len() - 1]));
-        self.near[2] += pairs(states.iter().map(|(_, record)| (&record[..TEST_WORDS], &record[SURE_AT..])));
+        self.near[2] +=
+            pairs(states.iter().map(|(_, record)| (&record[..TEST_WORDS], &record[SURE_AT..])));
     }
 
     pub fn refusal(&mut self, refusal: u32) {
@@ -102,6 +105,9 @@ impl Coverage {
         self.answers += 1;
         self.ended[answer.ended as usize] += 1;
         self.refusal(answer.refusal);
+        if answer.refusal == 0 {
+            self.marks[answer.cut as usize] += 1;
+        }
     }
 
     /// A lamp that was not refused for its list or its frame, and the sure set where it ended.
@@ -143,6 +149,7 @@ impl Coverage {
         for (i, name) in ENDED.iter().enumerate() {
             line(format!("ended: {name}"), &self.ended[i..=i], &[]);
         }
+        line("cut fields met: no, yes".to_string(), &self.marks, &[]);
         line("refusal 13 by the lamp".to_string(), &[self.damaged_lamps], &[]);
         line("lamps: lit, dark, unsure".to_string(), &self.lamps, &[]);
         line("questions: holds, fails, absent".to_string(), &self.outcomes(), &[]);

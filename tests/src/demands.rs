@@ -2,14 +2,17 @@
 //! library's walk or the reference's.
 //!
 //! With enough questions the sure set is the match set. With fewer, the sets are those of the
-//! residue rules after as many outcomes, and a filter once sure or out stays so.
+//! residue rules after as many outcomes, and a filter once sure or out stays so. The mark says whether
+//! one of these questions met a field that was cut off.
 
 use crate::brute::{path, Point};
 use crate::coverage::Coverage;
-use crate::fields::read;
+use crate::cut::glance;
+use crate::fields::{read, FIELDS};
 use crate::frames::Frame;
 use crate::lamp::Lamp;
-use crate::rules::{tests, words, Filter};
+use crate::residue::Outcome;
+use crate::rules::{tests, words, Filter, Test};
 use crate::scanner::match_set;
 use crate::sizes::Set;
 use crate::walker::{Answer, DONE, STOPPED};
@@ -26,12 +29,16 @@ pub fn describe(list: &[u32], frame: &Frame) -> String {
     )
 }
 
-/// The answer after so many questions at the most.
-fn expected(points: &[Point], allowance: u32) -> Answer {
+/// The answer after so many questions at the most; `found` are the fields that longer frames have.
+fn expected(points: &[Point], found: &[bool; FIELDS], allowance: u32) -> Answer {
     let last = points.len() - 1;
     let at = last.min(allowance as usize);
     let ended = if at == last { DONE } else { STOPPED };
-    Answer { ended, refusal: 0, sure: points[at].sure, out: points[at].out, asked: at as u32 }
+    let met = |(question, outcome): (Test, Outcome)| {
+        outcome == Outcome::Absent && found[question.field as usize]
+    };
+    let cut = u32::from(points[..at].iter().filter_map(|point| point.asked).any(met));
+    Answer { ended, refusal: 0, sure: points[at].sure, out: points[at].out, asked: at as u32, cut }
 }
 
 /// The set of all filters of a list.
@@ -78,6 +85,7 @@ pub fn check(
     let readings = read(&frame.bytes, frame.port);
     let matches = match_set(filters, &readings);
     let points = path(filters, &readings);
+    let found = glance(&frame.bytes);
     let tell = |text: String| format!("{text}\n{}", describe(&words(filters), frame));
     check_path(filters, &points, matches).map_err(tell)?;
     coverage.frame(frame);
@@ -89,7 +97,7 @@ pub fn check(
     for allowance in allowances {
         let answer = classify(allowance);
         coverage.answer(&answer);
-        let should = expected(&points, allowance);
+        let should = expected(&points, &found, allowance);
         if answer != should {
             return Err(tell(format!(
                 "allowance {allowance}: got {answer:?}, should be {should:?}"
@@ -97,7 +105,7 @@ pub fn check(
         }
     }
     // All questions of a list are enough, however the frame turns out.
-    let full = expected(&points, tests(filters) as u32);
+    let full = expected(&points, &found, tests(filters) as u32);
     if full.ended != DONE || full.sure != matches {
         return Err(tell(format!("not done after all tests: {full:?}, scanner {matches:b}")));
     }

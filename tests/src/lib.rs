@@ -29,12 +29,13 @@ pub mod brute;
 pub mod builder;
 pub mod cases;
 pub mod coverage;
+pub mod cut;
 pub mod demands;
 pub mod examples;
 pub mod fields;
 pub mod frames;
-pub mod lamp;
 pub mod gateway;
+pub mod lamp;
 #[cfg(feature = "library")]
 pub mod library;
 pub mod lists;

@@ -8,7 +8,7 @@ use std::env;
 use std::sync::OnceLock;
 
 use filterbox_sys as linked;
-use filterbox_sys::{Answer, Built, Judged, Lamp, Scanned};
+use filterbox_sys::{Answer, Built, Field, Judged, Lamp, Scanned};
 
 use crate::frames::Frame;
 use crate::gateway::Setting;
@@ -79,8 +79,9 @@ impl Library {
         if self.piped {
             let numbers = [u32::from(port), states, allowance];
             let rooms = &mut [Room::Bytes(frame), Room::Shown(table)];
-            let [ended, refusal, sure, out, asked, ..] = self.call(pipe::CLASSIFY, &numbers, rooms);
-            return Answer { ended, refusal, sure, out, asked };
+            let [ended, refusal, sure, out, asked, cut, ..] =
+                self.call(pipe::CLASSIFY, &numbers, rooms);
+            return Answer { ended, refusal, sure, out, asked, cut };
         }
         shown(self.place, frame, |frame| {
             shown(self.place, table, |table| {
@@ -150,6 +151,16 @@ impl Library {
             return;
         }
         lent(self.place, tallies, linked::clear)
+    }
+
+    /// Reads one field of a frame.
+    pub fn field(self, frame: &[u8], port: u8, number: u32) -> Field {
+        if self.piped {
+            let numbers = [u32::from(port), number];
+            let [kind, value, ..] = self.call(pipe::FIELD, &numbers, &mut [Room::Bytes(frame)]);
+            return Field { kind, value };
+        }
+        shown(self.place, frame, |frame| linked::field(frame, port, number))
     }
 
     /// The scratch words that a slot takes.

@@ -18,6 +18,7 @@ pub const SCAN: u32 = 4;
 pub const LAMP: u32 = 5;
 pub const JUDGE: u32 = 6;
 pub const CLEAR: u32 = 7;
+pub const FIELD: u32 = 8;
 /// No calls of the library: classifying that answers at once, by which instructions are counted, and
 /// touching a byte beside a room, to see that this is found.
 pub const NOTHING: u32 = 254;

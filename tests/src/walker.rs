@@ -1,11 +1,12 @@
 //! A frame's walk through a table's words, whoever wrote them
-//! (document 01, "Refusal numbers", the part on classifying).
+//! (document 01, "Refusal numbers", the part on classifying; document 02, P7).
 
 pub use filterbox_sys::Answer;
 
 pub use crate::sizes::MOST_FRAME;
 
 use crate::builder::{slots, RECORD_WORDS};
+use crate::cut::glance;
 use crate::fields::{read, FIELDS};
 use crate::rules::{Test, AT_LEAST};
 use crate::sizes::{ABSENT_AT, FAILS_AT, HOLDS_AT, OUT_AT, SURE_AT};
@@ -15,7 +16,7 @@ pub const DONE: u32 = 1;
 pub const STOPPED: u32 = 2;
 
 fn refused(refusal: u32) -> Answer {
-    Answer { ended: REFUSED, refusal, sure: 0, out: 0, asked: 0 }
+    Answer { ended: REFUSED, refusal, sure: 0, out: 0, asked: 0, cut: 0 }
 }
 
 /// Walks a frame through a table, with so many questions allowed.
@@ -29,6 +30,7 @@ pub fn classify(frame: &[u8], port: u8, table: &[u32], states: u32, allowance: u
     let readings = read(frame, port);
     let mut number = 0;
     let mut asked = 0;
+    let mut absent = Vec::new();
     loop {
         let record = &table[number as usize * RECORD_WORDS..][..RECORD_WORDS];
         let question =
@@ -39,7 +41,15 @@ pub fn classify(frame: &[u8], port: u8, table: &[u32], states: u32, allowance: u
         }
         if final_state || asked == allowance {
             let ended = if final_state { DONE } else { STOPPED };
-            return Answer { ended, refusal: 0, sure: record[SURE_AT], out: record[OUT_AT], asked };
+            let cut = u32::from(some_cut(frame, &absent));
+            return Answer {
+                ended,
+                refusal: 0,
+                sure: record[SURE_AT],
+                out: record[OUT_AT],
+                asked,
+                cut,
+            };
         }
         let way = match readings[question.field as usize] {
             None => ABSENT_AT,
@@ -49,7 +59,19 @@ pub fn classify(frame: &[u8], port: u8, table: &[u32], states: u32, allowance: u
         if record[way] >= states {
             return refused(13);
         }
+        // Only a question whose way has been taken counts.
         number = record[way];
         asked += 1;
+        if way == ABSENT_AT {
+            absent.push(question.field as usize);
+        }
+    }
+}
+
+/// Whether any of these absent fields was cut off (document 02, P7).
+fn some_cut(frame: &[u8], absent: &[usize]) -> bool {
+    !absent.is_empty() && {
+        let found = glance(frame);
+        absent.iter().any(|&field| found[field])
     }
 }

@@ -6,7 +6,7 @@ mod plain;
 #[path = "../../bench/src/scanner.rs"]
 mod scanner;
 
-use filterbox_sys::{Judged, Lamp, Scanned};
+use filterbox_sys::{Field, Judged, Lamp, Scanned};
 use plain::{Answer, Built, FromTheBack, MOST_FILTERS, MOST_FRAME, SLOT};
 use scanner::InTurn;
 use std::slice::{from_raw_parts, from_raw_parts_mut};
@@ -140,6 +140,24 @@ pub unsafe extern "C" fn filterbox_clear(tallies: *mut u32, tallies_len: usize) 
     from_raw_parts_mut(tallies, tallies_len).fill(0);
 }
 
+/// # Safety
+/// The pointer must be good for as many bytes as the length behind it says.
+#[no_mangle]
+pub unsafe extern "C" fn filterbox_field(
+    frame: *const u8,
+    frame_len: usize,
+    port: u8,
+    number: u32,
+) -> Field {
+    let frame = from_raw_parts(frame, frame_len);
+    let header = plain::read_header(frame, port);
+    let has = |set: u32| number <= 13 && set >> number & 1 == 1;
+    if has(header.present) {
+        return Field { kind: 1, value: header.values[number as usize] };
+    }
+    Field { kind: if has(plain::possible(frame)) { 2 } else { 0 }, value: 0 }
+}
+
 #[no_mangle]
 pub extern "C" fn filterbox_scratch_words() -> u32 {
     SLOT as u32
@@ -152,4 +170,5 @@ const _: filterbox_sys::types::filterbox_scan = filterbox_scan;
 const _: filterbox_sys::types::filterbox_lamp = filterbox_lamp;
 const _: filterbox_sys::types::filterbox_judge = filterbox_judge;
 const _: filterbox_sys::types::filterbox_clear = filterbox_clear;
+const _: filterbox_sys::types::filterbox_field = filterbox_field;
 const _: filterbox_sys::types::filterbox_scratch_words = filterbox_scratch_words;

@@ -9,12 +9,15 @@ use filterbox_tests::tools::{archive, installed, made, of_the_toolchain, root, r
 
 const PRINTED: &str = "\
 states 10
-allowance 0: stopped, sure 0, out 0, asked 0
-allowance 1: stopped, sure 1, out 2, asked 1
-allowance 2: done, sure 5, out 2, asked 2
+allowance 0: stopped, sure 0, out 0, asked 0, cut 0
+allowance 1: stopped, sure 1, out 2, asked 1, cut 0
+allowance 2: done, sure 5, out 2, asked 2, cut 0
 scanned: refusal 0, set 5
 lamp: refusal 0, lit 1, asked 1
 judged: refusal 0, verdict 2, tallies 1 0 0, unmatched 0
+24 bytes: done, sure 0, out 7, asked 2, cut 1
+field 8 of 24 bytes: none
+field 11 of 24 bytes: cut
 ";
 
 /// Warnings count as errors: the header is read by other people's compilers.

@@ -6,6 +6,7 @@ use filterbox_tests::builder::{
     MOST_SLOTS, RECORD_WORDS,
 };
 use filterbox_tests::coverage::Coverage;
+use filterbox_tests::cut::{longer, models, note, search, ENOUGH, TOTAL};
 use filterbox_tests::demands;
 use filterbox_tests::examples::{
     behind_impossible, deepest, echo_in_one_group, empty_filters, ends_of_the_range, one_bit_tests,
@@ -60,7 +61,7 @@ fn the_example_in_89_and_90_words() {
 fn the_echo_request_at_each_allowance() {
     let frame = echo_request(1);
     let answer = |allowance| classify(&frame.bytes, 0, &ECHO_RECORDS.concat(), 10, allowance);
-    let expect = |ended, sure, out, asked| Answer { ended, refusal: 0, sure, out, asked };
+    let expect = |ended, sure, out, asked| Answer { ended, refusal: 0, sure, out, asked, cut: 0 };
     assert_eq!(answer(0), expect(STOPPED, 0, 0, 0));
     assert_eq!(answer(1), expect(STOPPED, 1, 2, 1));
     assert_eq!(answer(2), expect(DONE, 5, 2, 2));
@@ -505,4 +506,66 @@ fn a_build_touches_only_its_words() {
     assert!(table[90..].iter().all(|&word| word == 5));
     assert!(scratch[..12 * MOST_SCRATCH_WORDS].iter().all(|&word| word == 0));
     assert_eq!(scratch[12 * MOST_SCRATCH_WORDS..], [6, 6]);
+}
+
+/// Frames that end where a byte is still to come that decides.
+fn cut_frames() -> Vec<Vec<u8>> {
+    let mut cut = Vec::new();
+    for (_, frame) in hand_made().into_iter().filter(|(_, frame)| frame.bytes.len() <= 200) {
+        cut.extend((0..=frame.bytes.len()).map(|length| frame.bytes[..length].to_vec()));
+    }
+    cut.sort();
+    cut.dedup();
+    cut
+}
+
+/// The search for longer frames goes on as four models do. Tails that differ from a model in any one
+/// byte of the headers have no field more, whatever the total length.
+#[test]
+fn no_byte_behind_the_end_shows_more_than_the_search() {
+    for frame in cut_frames().iter().filter(|frame| frame.len() < 24) {
+        let found = search(frame);
+        for model in models() {
+            for at in frame.len().max(12)..24 {
+                let mut bytes = longer(frame, &model);
+                for value in 0..=255 {
+                    bytes[at] = value;
+                    let mut also = found;
+                    for total in [20, 24, 60, 64, ENOUGH - 14] {
+                        note(&mut bytes, total, &mut also);
+                    }
+                    assert_eq!(also, found, "{frame:02x?}, byte {at} {value}");
+                }
+            }
+        }
+    }
+}
+
+/// Nor have tails of any bytes, of up to 200, with any total length that fits.
+#[test]
+fn no_random_tail_shows_more_than_the_search() {
+    let random = &mut Random::new(SEED);
+    let mut met = [0u64; FIELDS];
+    for frame in cut_frames() {
+        let found = search(&frame);
+        for _ in 0..8 {
+            // The two bytes of the total length are there at the least.
+            let length = (TOTAL + 2).max(frame.len() + random.below(201));
+            let mut bytes = frame.clone();
+            bytes.resize_with(length, || random.byte());
+            for (at, likely) in [(12, 8), (13, 0), (14, 0x46), (20, 0x40), (21, 0), (23, 6)] {
+                if frame.len() <= at && at < length && random.below(4) > 0 {
+                    bytes[at] = likely;
+                }
+            }
+            let mut also = [false; FIELDS];
+            note(&mut bytes, random.below(length), &mut also);
+            for field in 0..FIELDS {
+                assert!(found[field] || !also[field], "field {field} of {bytes:02x?}");
+                met[field] += u64::from(also[field] && read(&frame, 0)[field].is_none());
+            }
+        }
+    }
+    // Every field that a frame can lack was there in some tail.
+    assert!(met[..13].iter().all(|&count| count > 0), "{met:?}");
 }

@@ -27,6 +27,7 @@ use Rattle.fields.specs.Ethernet as N
 use Rattle.fields.specs.Ipv4 as I
 use Rattle.fields.specs.Transport as X
 use Rattle.fields.specs.Fields as F
+use Rattle.fields.specs.Seen as C
 use Rattle.sets.specs.Sets as S
 use Rattle.lists.specs.Filters as L
 use Rattle.lists.specs.Ranks as R
@@ -53,7 +54,7 @@ unfoldable pub gives : ℕ → Fact → Test → Residue → Bool
 gives full k t d = sameResidue (D.residueBy full k t) d
 
 unfoldable pub sameFound : Found → Found → Bool
-sameFound x y = eqb (x .sure) (y .sure) && eqb (x .out) (y .out) && eqb (x .asked) (y .asked)
+sameFound x y = eqb (x .sure) (y .sure) && eqb (x .out) (y .out) && eqb (x .asked) (y .asked) && eqb (S.bit (x .cut)) (S.bit (y .cut))
 
 unfoldable pub sameAnswer : Answer → Answer → Bool
 sameAnswer (Done x) (Done y) = sameFound x y
@@ -86,9 +87,9 @@ markedCases more =
     ∷ gives 255 (Known (Equal 0xF0 0x70)) (AtLeast 128) False
     ∷ gives 255 (Known (AtLeast 31)) (Equal 0xF0 0x10) (Left (Equal 0xF0 0x10))
     ∷ gives 255 (Known (AtLeast 32)) (Equal 0xF0 0x10) False
-    ∷ answers 0 (Stopped (record { sure = 0; out = 0; asked = 0 }))
-    ∷ answers 1 (Stopped (record { sure = 1; out = 2; asked = 1 }))
-    ∷ answers (2 + more) (Done (record { sure = 5; out = 2; asked = 2 }))
+    ∷ answers 0 (Stopped (record { sure = 0; out = 0; asked = 0; cut = false }))
+    ∷ answers 1 (Stopped (record { sure = 1; out = 2; asked = 1; cut = false }))
+    ∷ answers (2 + more) (Done (record { sure = 5; out = 2; asked = 2; cut = false }))
     ∷ []
 
 unfoldable pub allRight : List Bool → Bool
@@ -99,7 +100,8 @@ pub marked-cases : (more : ℕ) → allRight (markedCases more) ≡ true
 unfolding
     allRight markedCases gives sameResidue E.sameTest E.equalOf E.differsOf E.atMostOf E.atLeastOf
     D.residueBy D.fromEqual D.fromMasked D.reducedEqual D.reducedDiffers D.fromDiffers D.fromAtMost D.fromAtLeast D.covers D.outside D.settled
-    answers sameAnswer sameFound echoFrame echoTable W.walk W.walkFrom W.foundAt W.arrive W.onward W.damaged W.nextOf W.nextBy B.slotsOf B.wordOf B.sureSetAt B.outSetAt B.setAt L.testOf T.holds
+    answers sameAnswer sameFound echoFrame echoTable W.walk W.walkFrom W.foundAt W.arrive W.onward W.damaged W.nextOf W.nextBy W.cutOf B.slotsOf B.wordOf B.sureSetAt B.outSetAt B.setAt L.testOf T.holds
+    C.seen C.seenOf C.isCut C.readingOf C.possible C.chances C.mayBeType C.mayBeInternet C.mayBegin C.mayCarry C.could
     F.field F.readings F.puts P.putAll Y.two Y.four N.ethernet I.internet I.internetPuts I.version I.headerLength I.totalLength I.protocol I.transport I.transportStart
     I.transportEnd X.transportPuts
 marked-cases zero = rw echo-records

@@ -6,7 +6,7 @@
 --   w         the walk of the frame over what was built, at each allowance
 --   vs d ts   a gateway's verdict table, its standing verdict and its tallies
 --   j         the frame judged over what was built
---   shownAt   what document 01 shows of a state that a walk ends in: done or stopped, its sure set, its out set, the questions asked
+--   shownAt   what document 01 shows of a state that a walk ends in: done or stopped, its sure set, its out set, the questions asked; and document 02's mark
 use Prim.Native.Nat.{ℕ, _≤_, _<_}
 use mathlib.Core.Path.{_≡_}
 use mathlib.Core.Logic.{_⊎_}
@@ -15,7 +15,12 @@ use mathlib.Core.List.{List}
 use lib.Dec.{eqb}
 use lib.ListN.{length}
 use Rattle.residue.specs.declared.Outcome.{Outcome}
+use Rattle.fields.specs.Bytes.{Bytes}
 use Rattle.fields.specs.Fields.{field}
+use Rattle.fields.specs.Cut.{SeenAs}
+use Rattle.fields.specs.Seen.{seen}
+use Rattle.fields.specs.laws.Cut.{seen-as}
+use Rattle.fields.specs.laws.Values.{value-in-width}
 use Rattle.sets.specs.Sets.{bit, member}
 use Rattle.lists.specs.Filters.{maxFilters, Item, Filter, filtersOf, testsIn}
 use Rattle.lists.specs.Ranks.{matches, matchSet}
@@ -33,6 +38,8 @@ use Rattle.machine.specs.Box.{boxOf, statesOf}
 use Rattle.machine.specs.laws.Lawful.{states-distinct, states-reached, reached-states}
 use Rattle.states.specs.laws.Well.{well-start, well-follow}
 use Rattle.matcher.specs.declared.Answer.{Answer}
+use Rattle.matcher.specs.declared.Answer.the-variants.{Refused}
+use Rattle.matcher.specs.laws.Marks.{mark-lasts}
 use Rattle.matcher.specs.Walk.{found, isDone, damaged, walk}
 use Rattle.scanner.specs.Scan.{scanned}
 use Rattle.scanner.specs.declared.Scanned.the-variants.{Matched}
@@ -42,8 +49,7 @@ use Rattle.gateway.specs.Gateway.{tallyCount, verdictsFit, Judgement, countedAt
 use Rattle.gateway.specs.Events.{Event, sumOf, opened, bookOver}
 use Rattle.gateway.specs.laws.Events.{runs-add-up}
 use Rattle.builder.specs.Outcome.{refusalOf, numberOf, Left, scratchWords, outcome}
-use Rattle.labels.specs.Labels.{shownAt, Legal}
-use Rattle.labels.specs.laws.Truths.{legal-widths}
+use Rattle.labels.specs.Labels.{shownAt, metIn, Legal}
 use Rattle.demands.specs.laws.Builds.{build-full, build-fits}
 use Rattle.demands.specs.laws.Gateway.{verdict-first, verdict-standing}
 use Rattle.demands.specs.laws.Lamps.{damage-refused}
@@ -87,7 +93,8 @@ module _ (l t s : List ℕ) where
       gateway-standing = verdict-standing l t s built f p legal vs d ts room fit
 
     -- Demand 3: whatever the allowance, end, sets and count are those of the state that the residue rules reach by that many questions at most.
-    pub demand-3-exact : (a : ℕ) → w a ≡ shownAt fs (run fs (field f p) a (start fs)) (askedIn fs (field f p) a (start fs))
+    -- Change request P7: the mark says whether some of these questions met a cut field.
+    pub demand-3-exact : (a : ℕ) → w a ≡ shownAt fs (run fs (field f p) a (start fs)) (askedIn fs (field f p) a (start fs)) (metIn fs (seen f p) a (start fs))
     demand-3-exact = exact l t s built f p legal
 
     -- A filter of the list is in neither set exactly where it is open in that state.
@@ -143,7 +150,7 @@ module _ (l t s : List ℕ) where
 
       -- The lamp is lit exactly where the match set is not empty.
       pub lamp-lit : lamp .refusal ≡ 0 → lamp .lit ≡ bit (not (eqb (matchSet fs (field f p)) 0))
-      lamp-lit = shows-lit fs (field f p) (accepted-well l n k accepted) (legal-widths f p legal) (lampOf l f p table m) (lamp-shows l f p table m n k accepted (legal .short))
+      lamp-lit = shows-lit fs (field f p) (accepted-well l n k accepted) (value-in-width f p (legal .bytes) (legal .port)) (lampOf l f p table m) (lamp-shows l f p table m n k accepted (legal .short))
 
       -- It asks up to the first state that has a held filter or is final, and no further.
       pub lamp-asked : lamp .refusal ≡ 0 → (lampEnds (run fs (field f p) (lamp .asked) (start fs)) ≡ true) × ((j : ℕ) → j < lamp .asked → lampEnds (run fs (field f p) j (start fs)) ≡ false)
@@ -156,3 +163,13 @@ module _ (l t s : List ℕ) where
 -- Change request P5: over any run of frames and clearings, from a clearing on, the tallies add up to the frames judged since the last clearing.
 pub gateway-adds-up : (es : List Event) (ts : List ℕ) → sumOf (bookOver es (opened ts) .tallies) ≡ bookOver es (opened ts) .frames
 gateway-adds-up = runs-add-up
+
+-- Change request P7: a field is cut exactly where it is absent and some longer frame that begins with these bytes has it, the total length alone being free.
+pub field-seen : (f : List ℕ) (p n : ℕ) → Bytes f → SeenAs f p n (seen f p n)
+field-seen f p n known = seen-as f p known n
+
+-- Over any table a greater allowance that is not refused may set the mark and never clears it.
+pub mark-kept :
+    (f : List ℕ) (p : ℕ) (t : List ℕ) (m a a' : ℕ) → a ≤ a' → ((n : ℕ) → walk f p t m a' ≡ Refused n → ⊥) →
+    found (walk f p t m a) .cut ≡ true → found (walk f p t m a') .cut ≡ true
+mark-kept = mark-lasts

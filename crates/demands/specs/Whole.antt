@@ -10,6 +10,7 @@ use mathlib.Core.List.{List}
 use lib.ListN.{length}
 use Rattle.fields.specs.Ethernet.{maxFrame}
 use Rattle.fields.specs.Fields.{field}
+use Rattle.fields.specs.Seen.{seen}
 use Rattle.sets.specs.Sets.{member}
 use Rattle.lists.specs.Filters.{Filter, filtersOf, testsIn}
 use Rattle.lists.specs.Ranks.{matches}
@@ -19,7 +20,7 @@ use Rattle.builder.specs.Outcome as O
 use Rattle.matcher.specs.declared.Answer.{Answer}
 use Rattle.matcher.specs.declared.Answer.the-variants.{Refused}
 use Rattle.matcher.specs.Walk as W
-use Rattle.labels.specs.Labels.{shownAt}
+use Rattle.labels.specs.Labels.{shownAt, metIn}
 use Rattle.demands.specs.Settled.{walked}
 
 -- The words that building leaves: classifying changes none.
@@ -39,7 +40,7 @@ module _ (l t s f : List ℕ) (p a : ℕ) where
     -- Demand 2.
     pub settled : testsIn fs ≤ a → (W.isDone x ≡ true) × ((i : ℕ) → member i (W.found x .sure) ≡ matches fs (field f p) i)
     -- Demand 3, in the order of specs/Demands.antt.
-    pub exact : x ≡ shownAt fs reached (askedIn fs (field f p) a (start fs))
+    pub exact : x ≡ shownAt fs reached (askedIn fs (field f p) a (start fs)) (metIn fs (seen f p) a (start fs))
     pub neither : (i : ℕ) → i < length fs → (not (member i (W.found x .sure)) && not (member i (W.found x .out))) ≡ isOpen fs reached i
     pub sound-sure : (i : ℕ) → member i (W.found x .sure) ≡ true → matches fs (field f p) i ≡ true
     pub sound-out : (i : ℕ) → member i (W.found x .out) ≡ true → matches fs (field f p) i ≡ false

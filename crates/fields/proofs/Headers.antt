@@ -1,30 +1,23 @@
--- The puts of a frame by what it has, and a header from its puts.
+-- What a frame has, by what the arms of the code tell.
 -- Assumes nothing.
-use Prim.Native.Nat.{ℕ, _%_}
+use Prim.Native.Nat.{ℕ, _*_, _/_, _%_, _≤_}
 use native.Mathlib.Omega.{arith}
 use mathlib.Core.Path.{_≡_, refl, sym, _∙_}
-use mathlib.Core.Bool.{true, false, true≢false}
-use mathlib.Core.List.{List, [], _∷_, _++_}
-use borrow.Author.Tests.{le-leb}
-use lib.Dec.{eqb}
+use mathlib.Core.Bool.{true, false, true≢false, _&&_}
+use mathlib.Core.List.{List}
+use borrow.Author.Tests.{leb-true, le-leb, eq-eqb}
+use lib.Dec.{leb, eqb}
 use lib.ListN.{length}
-use Rattle.residue.specs.laws.Choice.{by-cond, never}
+use Rattle.residue.specs.laws.Choice.{by-cond, never, both, first, second}
 use Rattle.residue.specs.declared.Reading.{Reading}
 use Rattle.residue.specs.declared.Reading.the-variants.{Absent, Value}
 use Rattle.fields.specs.declared.ipv4.Packet.{Packet}
 use Rattle.fields.specs.declared.ipv4.Packet.the-variants.{Nothing, Whole}
-use Rattle.fields.specs.Bytes.{two, part}
-use Rattle.fields.specs.Puts.{Put}
+use Rattle.fields.specs.Bytes.{byte, two, part}
 use Rattle.fields.specs.Ethernet.{ipStart, etherType, ethernet}
-use Rattle.fields.specs.Ipv4.{internet, transportStart, transportEnd, transport}
-use Rattle.fields.specs.Fields.{puts}
-use Rattle.fields.specs.Header.{Header, presentSet}
-use Rattle.fields.specs.inner.Parts.{Added, Spans, typeIn, packetIn, packetPuts}
+use Rattle.fields.specs.Ipv4.{internet, version, headerLength, transportStart, transportEnd, transport}
+use Rattle.fields.specs.inner.Parts.{typeIn, packetIn}
 use Rattle.fields.specs.laws.Ipv4.{internet-lengths}
-
-pub from-puts : {f : List ℕ} {p : ℕ} {ps : List Put} {old new : List ℕ} {r : ℕ} → puts f p ≡ ps → Added ps 0 old r new → Header f p old new r
-unfolding presentSet
-from-puts e added = record { set = rw e (added .set); words = rw e (added .words) }
 
 -- What the arms of a reading and of a packet tell.
 pub is-type : (f : List ℕ) {n : ℕ} → typeIn f ≡ Value n → (ethernet f ≡ true) × (etherType f ≡ n)
@@ -39,7 +32,27 @@ no-type f =
     (λ h e. let z : _≡_ {A = ℕ} 0 1 = cc in absurd (omega arith))
     (λ h e. h)
 
--- A packet and its transport part.
+-- What the test of a header's first byte tells.
+pub no-first : (f : List ℕ) → (eqb (byte f ipStart / 16) 4 && leb 5 (byte f ipStart % 16)) ≡ false → internet f ≡ false
+unfolding version headerLength
+no-first f lacks =
+    never (internet f)
+    (λ (has : internet f ≡ true).
+    let known = internet-lengths f has in
+    true≢false (sym (both (eqb (byte f 14 / 16) 4) (leb 5 (byte f 14 % 16)) (eq-eqb _ 4 (known .four)) (le-leb 5 (byte f 14 % 16) (omega arith))) ∙ lacks))
+
+pub is-first : (f : List ℕ) → (eqb (byte f ipStart / 16) 4 && leb 5 (byte f ipStart % 16)) ≡ true → (eqb (version f) 4 ≡ true) × (leb 20 (headerLength f) ≡ true)
+unfolding version headerLength
+is-first f h =
+    let fours = leb-true 5 (byte f 14 % 16) (second (eqb (byte f 14 / 16) 4) (leb 5 (byte f 14 % 16)) h) in
+    (first (eqb (byte f 14 / 16) 4) (leb 5 (byte f 14 % 16)) h, le-leb 20 (4 * (byte f 14 % 16)) (omega arith))
+
+-- Room for a header, and for a part from a to e; a packet and its transport part.
+pub record Spans (f : List ℕ) (a e : ℕ) : Type 0 where
+  pub whole : 34 ≤ length f
+  pub order : a ≤ e
+  pub inside : e ≤ length f
+
 pub record PacketAt (f : List ℕ) (start end : ℕ) : Type 0 where
   pub has : internet f ≡ true
   pub same : transport f ≡ part f start end
@@ -73,24 +86,11 @@ no-packet f =
     (λ h e. let z : _≡_ {A = ℕ} 0 1 = cc in absurd (omega arith))
     (λ h e. h)
 
-module _ (f : List ℕ) (p : ℕ) where
-  -- A packet is in an Ethernet frame.
-  unframed : ethernet f ≡ false → internet f ≡ false
-  unfolding ethernet
-  unframed lacks =
-      never (internet f)
-      (λ (has : internet f ≡ true).
-      let known = internet-lengths f has in
-      true≢false (sym (simp (le-leb ipStart (length f) (omega arith), le-leb 1536 (etherType f) (omega arith))) ∙ lacks))
-
-  pub puts-none : ethernet f ≡ false → puts f p ≡ (13, p) ∷ []
-  unfolding puts
-  puts-none e = simp (e, unframed e)
-
-  pub puts-ethernet : ethernet f ≡ true → internet f ≡ false → puts f p ≡ (13, p) ∷ (0, etherType f) ∷ []
-  unfolding puts
-  puts-ethernet e i = simp (e, i)
-
-  pub puts-internet : {a e : ℕ} → ethernet f ≡ true → PacketAt f a e → puts f p ≡ (13, p) ∷ (0, etherType f) ∷ [] ++ packetPuts f a e
-  unfolding puts
-  puts-internet h known = simp (h, known .has, known .same)
+-- A packet is in an Ethernet frame.
+pub unframed : (f : List ℕ) → ethernet f ≡ false → internet f ≡ false
+unfolding ethernet
+unframed f lacks =
+    never (internet f)
+    (λ (has : internet f ≡ true).
+    let known = internet-lengths f has in
+    true≢false (sym (simp (le-leb ipStart (length f) (omega arith), le-leb 1536 (etherType f) (omega arith))) ∙ lacks))

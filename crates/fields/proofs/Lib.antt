@@ -1,4 +1,3 @@
 pub mod SmallWidths
-pub mod Filling
 pub mod Transports
 pub mod Headers

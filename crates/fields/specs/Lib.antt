@@ -5,6 +5,8 @@ pub mod Ethernet
 pub mod Ipv4
 pub mod Transport
 pub mod Fields
+pub mod Cut
+pub mod Seen
 pub mod Header
 pub mod inner
 pub mod laws

@@ -1,6 +1,12 @@
 pub mod Bytes
 pub mod Fragments
 pub mod Ipv4
+pub mod Filling
 pub mod Header
 pub mod Values
 pub mod Agree
+pub mod Present
+pub mod Longer
+pub mod Grown
+pub mod Cut
+pub mod CutSet

@@ -1,5 +1,8 @@
 // The transport part (RFC 768, 792, 793).
+ghost use mathlib.Core.Path.{_≡_};
+ghost use Rattle.sets.specs.Sets.{setOf};
 ghost use Rattle.fields.specs.Transport.{tcp, udp, icmp, transportPuts};
+ghost use Rattle.fields.specs.inner.Parts.{carried};
 ghost use Rattle.fields.specs.inner.Parts.{Added};
 use crate::Values;
 use crate::bytes::byte_at;
@@ -7,7 +10,7 @@ use crate::bytes::two_at;
 use crate::put::put;
 
 // Protocols.
-const TCP: u32 = 6;
+pub const TCP: u32 = 6;
 
 const UDP: u32 = 17;
 
@@ -15,13 +18,19 @@ const ICMP: u32 = 1;
 // The fields that transport parts have, by their numbers.
 const SOURCE_PORT: u32 = 8;
 
-const DESTINATION_PORT: u32 = 9;
+pub const DESTINATION_PORT: u32 = 9;
 
-const TCP_FLAGS: u32 = 10;
+pub const TCP_FLAGS: u32 = 10;
 
 const ICMP_TYPE: u32 = 11;
 
-const ICMP_CODE: u32 = 12;
+pub const ICMP_CODE: u32 = 12;
+// The fields of each protocol, as sets.
+const UDP_SET: u32 = (1 << SOURCE_PORT) + (1 << DESTINATION_PORT);
+
+const TCP_SET: u32 = UDP_SET + (1 << TCP_FLAGS);
+
+const ICMP_SET: u32 = (1 << ICMP_TYPE) + (1 << ICMP_CODE);
 
 // The ports, which TCP and UDP share: the source port too is there only if both are whole.
 fn udp(part: &[u8], present: u32, values: &mut Values) -> u32
@@ -73,4 +82,24 @@ pub fn fill(part: &[u8], protocol: u32, present: u32, values: &mut Values) -> u3
         return icmp(part, present, values);
     }
     present
+}
+
+// The fields that a part could have whose protocol stands at a place of the frame, or behind its end.
+pub fn carried_set(frame: &[u8], at: usize) -> u32
+    ensures { λ r. ⌜ r ≡ setOf (carried (now (frame .entry)) at) ⌝ }
+{
+    if frame.len() <= at {
+        return TCP_SET + ICMP_SET;
+    }
+    let protocol = byte_at(frame, at);
+    if protocol == TCP {
+        return TCP_SET;
+    }
+    if protocol == UDP {
+        return UDP_SET;
+    }
+    if protocol == ICMP {
+        return ICMP_SET;
+    }
+    0
 }

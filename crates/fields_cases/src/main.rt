@@ -1,23 +1,26 @@
-// Reads hand-made frames, at and around each border of document 01, "Fields", and of document 02, P2, and prints one line a frame: what it tries, the
-// frame's bytes, the present set, and the fourteen fields, with - for an absent one. Box port 7 throughout.
+// Reads hand-made frames, at and around each border of document 01, "Fields", and of document 02, P2 and P7, and prints one line a frame: what it
+// tries, the frame's bytes, the present set, the cut set, and the fourteen fields, with - for none and ~ for cut. Box port 7 throughout.
 ghost use Prim.Native.Nat.{_≤_};
 ghost use lib.ListN.{length};
 use fields::FIELDS;
+use fields::Seen;
 use libc::STDOUT_FILENO;
-use residue::Reading;
 
 // A packet that is whole and may not be divided.
 const WHOLE: u16 = 16384;
 // One number more than there are fields: each line ends with its - too.
 const SHOWN: u32 = FIELDS as u32 + 1;
 
-fn print_reading(r: Reading) {
-    match r {
-        Reading::Absent => {
+fn print_seen(seen: Seen) {
+    match seen {
+        Seen::Has(x) => {
+            print_number(x as u64);
+        }
+        Seen::None => {
             io::write_all(STDOUT_FILENO, b" -");
         }
-        Reading::Value(x) => {
-            print_number(x as u64);
+        Seen::Cut => {
+            io::write_all(STDOUT_FILENO, b" ~");
         }
     }
 }
@@ -34,9 +37,10 @@ fn show(label: &[u8], frame: &[u8]) {
     let mut values = [0u32; FIELDS];
     let present = fields::read_header(frame, 7, &mut values);
     print_number(present as u64);
+    print_number(fields::cut_set(frame, present) as u64);
     let mut i: u32 = 0;
     while i < SHOWN {
-        print_reading(fields::reading_at(present, &values, i));
+        print_seen(fields::read_field(frame, 7, i));
         i += 1;
     }
     io::write_all(STDOUT_FILENO, b"\n");
@@ -81,6 +85,15 @@ fn fragment_case(label: &[u8], first: u8, fragment: u16, protocol: u8) {
     let mut f = [0u8; 96];
     head(&mut f, 2048, first, 38, fragment, protocol);
     show(label, &f[..52]);
+}
+
+// The first n bytes of a TCP fragment.
+fn short_fragment_case(label: &[u8], n: usize, fragment: u16)
+    requires { ⌜ n ≤ 96 ⌝ }
+{
+    let mut f = [0u8; 96];
+    head(&mut f, 2048, 69, 38, fragment, 6);
+    show(label, &f[..n]);
 }
 
 // The same for TCP in a frame about as long as the box takes, 1,522 bytes, which is no matter for fields.
@@ -211,6 +224,27 @@ fn later_fragment_cases() {
     fragment_case(b"icmp, all flags and offset 8191", 69, 65535, 1);
 }
 
+// What decides is cut off, or just not, byte by byte.
+fn short_cases() {
+    case(b"12 bytes", 12, 2048, 69, 20, 6);
+    case(b"13 bytes, ethertype 5..", 13, 1535, 69, 20, 6);
+    case(b"13 bytes, ethertype 6..", 13, 1536, 69, 20, 6);
+    case(b"13 bytes, ethertype 8..", 13, 2048, 69, 20, 6);
+    case(b"15 bytes", 15, 2048, 69, 20, 6);
+    case(b"15 bytes, version 5", 15, 2048, 85, 20, 6);
+    case(b"15 bytes, header length 16", 15, 2048, 68, 20, 6);
+    case(b"23 bytes", 23, 2048, 69, 20, 6);
+    case(b"24 bytes, tcp", 24, 2048, 69, 20, 6);
+    case(b"24 bytes, udp", 24, 2048, 69, 20, 17);
+    case(b"24 bytes, icmp", 24, 2048, 69, 20, 1);
+    case(b"24 bytes, protocol 2", 24, 2048, 69, 20, 2);
+    short_fragment_case(b"20 bytes, offset 8191", 20, 8191);
+    short_fragment_case(b"21 bytes, offset 255", 21, 255);
+    short_fragment_case(b"21 bytes, offset 256", 21, 256);
+    short_fragment_case(b"22 bytes, offset 255", 22, 255);
+    short_fragment_case(b"22 bytes, all flags and offset 0", 22, 57344);
+}
+
 fn long_cases() {
     long_case(b"longest frame", 1522, 1508);
     long_case(b"longest frame cut by one", 1521, 1508);
@@ -232,7 +266,7 @@ fn show_full() {
 fn show_one(number: u32) {
     let mut f = [0u8; 96];
     head(&mut f, 2048, 69, 34, WHOLE, 6);
-    print_reading(fields::read_field(&f[..48], 255, number));
+    print_seen(fields::read_field(&f[..48], 255, number));
 }
 
 fn one_cases() {
@@ -253,6 +287,7 @@ fn main() {
     icmp_cases();
     first_fragment_cases();
     later_fragment_cases();
+    short_cases();
     long_cases();
     show_full();
     one_cases();

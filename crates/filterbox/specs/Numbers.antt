@@ -1,8 +1,9 @@
 -- The public calls' answers as the fields of C structs.
---   endedWith e r x  how a walk ended (0 refused, 1 done, 2 stopped), the refusal's number, and what was found
+--   endedWith e r x  how a walk ended (0 refused, 1 done, 2 stopped), the refusal's number, and what was found; 1 for the mark where it is set
 --   classified a     these numbers for each case of the enum Answer
 --   matched a        the refusal's number or 0, the filter's number, the match set, for each case of the enum Scanned
 --   lampWith n       the numbers of the lamp's answer
+--   fieldWith s      whether a field is there (0 none, 1 value, 2 cut), and its value or 0, for each case of the enum Seen
 --   builtWith b      the refusal's number or 0, the number of states or the filter's number, for each case of the enum Built
 --   Compiled         an answer and the words afterwards are those of an outcome of building
 --   verdictOf a      the refusal's number or 0, and the verdict, for each case of the enum Judged
@@ -10,6 +11,9 @@
 use mathlib.Core.Path.{_≡_}
 use Prim.Native.Nat.{ℕ}
 use mathlib.Core.List.{List}
+use Rattle.sets.specs.Sets.{bit}
+use Rattle.fields.specs.declared.Seen.{Seen}
+use Rattle.fields.specs.declared.Seen.the-variants as F
 use Rattle.matcher.specs.declared.Found.{Found}
 use Rattle.matcher.specs.declared.Answer.{Answer}
 use Rattle.matcher.specs.declared.Answer.the-variants as A
@@ -25,11 +29,12 @@ use Rattle.builder.specs.Outcome as B
 use Rattle.filterbox.specs.declared.FilterboxAnswer.{FilterboxAnswer}
 use Rattle.filterbox.specs.declared.FilterboxBuilt.{FilterboxBuilt}
 use Rattle.filterbox.specs.declared.FilterboxLamp.{FilterboxLamp}
+use Rattle.filterbox.specs.declared.FilterboxField.{FilterboxField}
 use Rattle.filterbox.specs.declared.FilterboxScanned.{FilterboxScanned}
 use Rattle.filterbox.specs.declared.FilterboxJudged.{FilterboxJudged}
 
 abbrev pub endedWith : ℕ → ℕ → Found → FilterboxAnswer
-endedWith e r x = record { ended = e; refusal = r; sure = x .sure; out = x .out; asked = x .asked }
+endedWith e r x = record { ended = e; refusal = r; sure = x .sure; out = x .out; asked = x .asked; cut = bit (x .cut) }
 
 -- A refusal has zeros for what was found.
 unfoldable pub classified : Answer → FilterboxAnswer
@@ -44,6 +49,11 @@ matched (S.Refused r i) = record { refusal = r; filter = i; set = 0 }
 
 abbrev pub lampWith : L.Numbers → FilterboxLamp
 lampWith n = record { refusal = n .refusal; filter = n .filter; lit = n .lit; asked = n .asked }
+
+unfoldable pub fieldWith : Seen → FilterboxField
+fieldWith (F.Has x) = record { kind = 1; value = x }
+fieldWith F.None = record { kind = 0; value = 0 }
+fieldWith F.Cut = record { kind = 2; value = 0 }
 
 abbrev pub builtWith : Built → FilterboxBuilt
 builtWith b = record { refusal = B.refusalOf b; number = B.numberOf b }

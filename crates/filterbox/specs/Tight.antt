@@ -3,16 +3,18 @@ use Prim.Native.Nat.{ℕ}
 use mathlib.Core.Path.{_≡_, sym, _∙_}
 use mathlib.Core.List.{List}
 use Rattle.slots.specs.Words.{slotWords}
+use Rattle.fields.specs.declared.Seen.{Seen}
 use Rattle.matcher.specs.declared.Answer.{Answer}
 use Rattle.scanner.specs.declared.Scanned.{Scanned}
 use Rattle.lamp.specs.declared.Lamp.{Lamp}
 use Rattle.lamp.specs.Lamp.{numbersOf}
 use Rattle.gateway.specs.Gateway as G
 use Rattle.builder.specs.Outcome as B
-use Rattle.filterbox.specs.Numbers.{classified, matched, lampWith, Compiled, Tallied}
+use Rattle.filterbox.specs.Numbers.{classified, matched, fieldWith, lampWith, Compiled, Tallied}
 use Rattle.filterbox.specs.declared.FilterboxAnswer.{FilterboxAnswer}
 use Rattle.filterbox.specs.declared.FilterboxBuilt.{FilterboxBuilt}
 use Rattle.filterbox.specs.declared.FilterboxLamp.{FilterboxLamp}
+use Rattle.filterbox.specs.declared.FilterboxField.{FilterboxField}
 use Rattle.filterbox.specs.declared.FilterboxScanned.{FilterboxScanned}
 use Rattle.filterbox.specs.declared.FilterboxJudged.{FilterboxJudged}
 
@@ -25,7 +27,7 @@ filterbox-build-tight l a b ta tb sa sb x y = (
   x .scratch ∙ sym (y .scratch),
 )
 
--- filterbox_classify: the five numbers; it writes nothing.
+-- filterbox_classify: the six numbers; it writes nothing.
 pub filterbox-classify-tight : (w : Answer) (a b : FilterboxAnswer) → a ≡ classified w → b ≡ classified w → a ≡ b
 filterbox-classify-tight w a b x y = x ∙ sym y
 
@@ -44,6 +46,10 @@ filterbox-judge-tight j a b ta tb x y = (x .answer ∙ sym (y .answer), x .talli
 -- filterbox_clear: every tally afterwards.
 pub filterbox-clear-tight : (ts ta tb : List ℕ) → ta ≡ G.emptied ts → tb ≡ G.emptied ts → ta ≡ tb
 filterbox-clear-tight ts ta tb x y = x ∙ sym y
+
+-- filterbox_field: both numbers; it writes nothing.
+pub filterbox-field-tight : (s : Seen) (a b : FilterboxField) → a ≡ fieldWith s → b ≡ fieldWith s → a ≡ b
+filterbox-field-tight s a b x y = x ∙ sym y
 
 -- filterbox_scratch_words.
 pub filterbox-scratch-words-tight : (a b : ℕ) → a ≡ slotWords → b ≡ slotWords → a ≡ b

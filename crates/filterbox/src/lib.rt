@@ -3,11 +3,14 @@ ghost use mathlib.Core.Path.{_≡_};
 ghost use Rattle.slots.specs.Words.{slotWords};
 ghost use Rattle.builder.specs.Outcome.{outcome};
 ghost use Rattle.matcher.specs.Walk.{walk};
+ghost use Rattle.sets.specs.Sets.{bit};
+ghost use Rattle.fields.specs.Seen.{seen};
 ghost use Rattle.scanner.specs.Scan.{scanned};
 ghost use Rattle.lamp.specs.Lamp.{numbersOf, lampOf};
 ghost use Rattle.gateway.specs.Gateway.{judged, emptied};
-ghost use Rattle.filterbox.specs.Numbers.{builtWith, Compiled, endedWith, classified, matched, lampWith, verdictOf, Tallied};
+ghost use Rattle.filterbox.specs.Numbers.{builtWith, Compiled, endedWith, classified, matched, fieldWith, lampWith, verdictOf, Tallied};
 use builder::Built;
+use fields::Seen;
 use gateway::Judged;
 use lamp::Lamp;
 use matcher::Answer;
@@ -59,7 +62,8 @@ pub extern "C" fn filterbox_scratch_words() -> u32
     SCRATCH_WORDS
 }
 
-// How a walk ended (0 refused, 1 done, 2 stopped), the refusal's number or 0, the sure set, the out set and the questions asked.
+// How a walk ended (0 refused, 1 done, 2 stopped), the refusal's number or 0, the sure set, the out set, the questions asked,
+// and 1 where some of them met a cut field, else 0.
 #[repr(C)]
 pub struct FilterboxAnswer {
     pub ended: u32,
@@ -67,6 +71,17 @@ pub struct FilterboxAnswer {
     pub sure: u32,
     pub out: u32,
     pub asked: u32,
+    pub cut: u32,
+}
+
+// A mark as a number.
+fn bit_of(mark: bool) -> u32
+    ensures { λ r. ⌜ r ≡ bit mark ⌝ }
+{
+    if mark {
+        return 1;
+    }
+    0
 }
 
 fn ended_with(ended: u32, refusal: u32, found: Found) -> FilterboxAnswer
@@ -78,6 +93,7 @@ fn ended_with(ended: u32, refusal: u32, found: Found) -> FilterboxAnswer
         sure: found.sure,
         out: found.out,
         asked: found.asked,
+        cut: bit_of(found.cut),
     }
 }
 
@@ -92,6 +108,7 @@ fn answer_of(answer: Answer) -> FilterboxAnswer
                 sure: 0,
                 out: 0,
                 asked: 0,
+                cut: false,
             };
             ended_with(0, number, none)
         }
@@ -238,4 +255,29 @@ pub extern "C" fn filterbox_clear(tallies: &mut [u32])
     ensures { λ _. ⌜ now (tallies .exit) ≡ emptied (now (tallies .entry)) ⌝ }
 {
     gateway::clear(tallies);
+}
+
+// Whether a field is there (0 none, 1 value, 2 cut), and its value, 0 where it is not.
+#[repr(C)]
+pub struct FilterboxField {
+    pub kind: u32,
+    pub value: u32,
+}
+
+fn field_of(seen: Seen) -> FilterboxField
+    ensures { λ r. ⌜ r ≡ fieldWith seen ⌝ }
+{
+    match seen {
+        Seen::Has(x) => FilterboxField { kind: 1, value: x },
+        Seen::None => FilterboxField { kind: 0, value: 0 },
+        Seen::Cut => FilterboxField { kind: 2, value: 0 },
+    }
+}
+
+// Reads field `number` of a frame of any length, which came in at a box port; none above the last number.
+#[no_mangle]
+pub extern "C" fn filterbox_field(frame: &[u8], port: u8, number: u32) -> FilterboxField
+    ensures { λ r. ⌜ r ≡ fieldWith (seen (now (frame .entry)) port number) ⌝ }
+{
+    field_of(fields::read_field(frame, port, number))
 }

@@ -8,14 +8,15 @@ use borrow.Author.Tests.{eqb-true, lt-ltb, lt-leb, not-true}
 use lib.Bits.{bitAnd}
 use lib.Dec.{eqb}
 use Rattle.residue.specs.Tests.{holds}
-use Rattle.residue.specs.declared.Reading.{Reading}
 use Rattle.residue.specs.declared.Reading.the-variants.{Value}
 use Rattle.fields.specs.Widths.{fieldCount}
+use Rattle.fields.specs.Seen.{readingOf}
+use Rattle.fields.specs.declared.Seen.{Seen}
 use Rattle.lists.specs.Filters.{testOf, kindAt, fieldAt}
 use Rattle.tables.specs.Tables.{wordOf}
 use Rattle.matcher.specs.Walk.{damaged, nextOf, onward, walkFrom}
 use Rattle.matcher.specs.inner.Chains.{linksAt, Chained}
-use Rattle.matcher.proofs.Steps.{Walking, window, read, read-word, at-question, way-fails}
+use Rattle.matcher.proofs.Steps.{Walking, window, read, read-word, at-question, mark-stays, way-fails}
 
 record Link (t : List ℕ) (n f x next : ℕ) : Type 0 where
   kind : read t n 0 ≡ 1
@@ -64,20 +65,21 @@ module _ {t : List ℕ} {f x n next : ℕ} (small : f < fieldCount) (l : Link t 
 
   -- One question for each link.
   link-step :
-      (m : ℕ) (r : ℕ → Reading) (a q : ℕ) →
+      (m : ℕ) (v : ℕ → Seen) (a q : ℕ) →
       next < m →
-      r f ≡ Value x →
+      readingOf (v f) ≡ Value x →
       q < a →
-      walkFrom t m r (suc q) (a - suc q) n ≡ walkFrom t m r q (a - q) next
+      (b : Bool) →
+      walkFrom t m v (suc q) (a - suc q) b n ≡ walkFrom t m v q (a - q) b next
   unfolding onward
-  link-step m r a q inside e h =
-      let reads : r (read t n 1) ≡ Value x = rw (l .field) e in
-      let way : nextOf t r n ≡ next = way-fails t r n x reads link-test ∙ l .leads in
-      rw (way, lt-ltb next m inside) at (at-question t m r n a q h link-sound link-asks)
+  link-step m v a q inside e h b =
+      let reads : readingOf (v (read t n 1)) ≡ Value x = rw (l .field) e in
+      let way : nextOf t v n ≡ next = way-fails t v n x reads link-test ∙ l .leads in
+      rw (way, lt-ltb next m inside, mark-stays t v n x reads b) at (at-question t m v b n a q h link-sound link-asks)
 
 module _ {t : List ℕ} {m f x l s : ℕ} where
   pub chained-none : s < m → Chained t m f x l s l s
-  chained-none h = record { within = omega arith; inside = h; same = λ r e a h'. refl }
+  chained-none h = record { within = omega arith; inside = h; same = λ v e a h' b. refl }
 
   -- A further link, where so many more would lead to no record beyond the states.
   pub chained-more :
@@ -95,25 +97,25 @@ module _ {t : List ℕ} {m f x l s : ℕ} where
         within = omega (arith, c .within);
         inside = next;
         same =
-            λ r v a (fits : l ≤ a).
+            λ v e' a (fits : l ≤ a) b.
             let more : q ≡ suc (q - 1) = omega arith in
             let fewer : q - 1 < a = omega (arith, c .within) in
-            let first : walkFrom t m r l (a - l) s ≡ walkFrom t m r (suc (q - 1)) (a - suc (q - 1)) n =
-            rw more at (c .same r v a fits) in
-            first ∙ link-step small (link t n f x (n + 2) e) m r a (q - 1) next v fewer;
+            let first : walkFrom t m v l (a - l) b s ≡ walkFrom t m v (suc (q - 1)) (a - suc (q - 1)) b n =
+            rw more at (c .same v e' a fits b) in
+            first ∙ link-step small (link t n f x (n + 2) e) m v a (q - 1) next e' fewer b;
       } in
       (going, omega arith)
 
 -- A walk goes on behind the chain.
 pub walked-on :
-    {t : List ℕ} {m : ℕ} {r : ℕ → Reading} {a l n f x q n' : ℕ} →
-    Walking t m r a l n →
-    r f ≡ Value x →
+    {t : List ℕ} {m : ℕ} {v : ℕ → Seen} {a l : ℕ} {b : Bool} {n f x q n' : ℕ} →
+    Walking t m v a l b n →
+    readingOf (v f) ≡ Value x →
     Chained t m f x l n q n' →
-    Walking t m r a q n'
-walked-on {r = r} {a = a} w v c =
+    Walking t m v a q b n'
+walked-on {v = v} {a = a} {b = b} w e c =
     record {
       inside = c .inside;
       within = omega (arith, w .within, c .within);
-      rest = sym (c .same r v a (w .within)) ∙ w .rest;
+      rest = sym (c .same v e a (w .within) b) ∙ w .rest;
     }

@@ -1,8 +1,8 @@
 -- One turn of the walk: what each way out of a record says of the walk from record 0.
 --   window t n             the nine words that are lent from word 9 n on
 --   read t n j             word j of record n, as a walk reads it: out of those nine words
---   Walking t m r a l n    record n was reached with l questions left of a, and the walk from there answers the whole walk
---   Asking t m r a l n     besides, record n is a question that may be asked, and leaves one question fewer
+--   Walking t m v a l b n  record n was reached with l questions left of a and the mark b, and the walk from there answers the whole walk
+--   Asking t m v a l b n   besides, record n is a question that may be asked, and leaves one question fewer
 use Prim.Native.Nat.{ℕ, zero, suc, _+_, _-_, _*_, _≤_, _<_}
 use native.Mathlib.Nat.{pos-of-ne-zero}
 use native.Mathlib.Omega.{arith}
@@ -14,14 +14,16 @@ use lib.Dec.{ltb, eqb}
 use lib.ListN.{take, drop}
 use lib.Seq.{getD-take, getD-drop}
 use Rattle.residue.specs.Tests.{holds}
-use Rattle.residue.specs.declared.Reading.{Reading}
 use Rattle.residue.specs.declared.Reading.the-variants.{Absent, Value}
 use Rattle.fields.specs.Widths.{fieldCount}
+use Rattle.fields.specs.Seen.{isCut, readingOf}
+use Rattle.fields.specs.declared.Seen.{Seen}
+use Rattle.fields.specs.laws.CutSet.{value-uncut}
 use Rattle.lists.specs.Filters.{kindAtLeast, testOf, kindAt, fieldAt}
 use Rattle.tables.specs.Tables.{recordWords, wordOf, setAt, sureSetAt, outSetAt}
 use Rattle.matcher.specs.declared.Answer.{Answer}
 use Rattle.matcher.specs.declared.Answer.the-variants.{Refused}
-use Rattle.matcher.specs.Walk.{foundAt, damaged, nextBy, nextOf, arrive, onward, walkFrom}
+use Rattle.matcher.specs.Walk.{foundAt, damaged, nextBy, nextOf, cutOf, arrive, onward, walkFrom}
 use Rattle.matcher.specs.inner.Records.{wordIn, lastField, endsAt, foundIn, endAt}
 
 abbrev pub window : List ℕ → ℕ → List ℕ
@@ -36,10 +38,10 @@ read-word t n j h =
     getD-take (recordWords * n + recordWords - recordWords * n) (drop (recordWords * n) t) j 0 (omega arith) ∙
     getD-drop (recordWords * n) t j 0
 
-pub record Walking (t : List ℕ) (m : ℕ) (r : ℕ → Reading) (a l n : ℕ) : Type 0 where
+pub record Walking (t : List ℕ) (m : ℕ) (v : ℕ → Seen) (a l : ℕ) (b : Bool) (n : ℕ) : Type 0 where
   pub inside : n < m
   pub within : l ≤ a
-  pub rest : walkFrom t m r l (a - l) n ≡ walkFrom t m r a 0 0
+  pub rest : walkFrom t m v l (a - l) b n ≡ walkFrom t m v a 0 false 0
 
 -- The tests of a record's words, put together: z final, h a kind above 4, g a field above the last, l the allowance used.
 covered : (z h g : Bool) → (z || h || g) ≡ true → (h || (not z && g) || z) ≡ true
@@ -65,9 +67,9 @@ settles true f e end on on' = refl
 settles false true e end on on' = refl
 settles false false e end on on' = absurd (false≢true e)
 
-module _ (t : List ℕ) (m : ℕ) (r : ℕ → Reading) (k n : ℕ) where
+module _ (t : List ℕ) (m : ℕ) (v : ℕ → Seen) (k : ℕ) (b : Bool) (n : ℕ) where
   -- No question left: what the record shows by itself.
-  at-end : endAt (window t n) k ≡ walkFrom t m r 0 k n
+  at-end : endAt (window t n) k b ≡ walkFrom t m v 0 k b n
   unfolding endAt foundIn walkFrom foundAt sureSetAt outSetAt setAt damaged
   at-end =
       rw (
@@ -78,22 +80,22 @@ module _ (t : List ℕ) (m : ℕ) (r : ℕ → Reading) (k n : ℕ) where
       )
 
   at-rest :
-      (b : ℕ) →
+      (d : ℕ) →
       (damaged t n || eqb (wordOf t n kindAt) 0) ≡ true →
-      walkFrom t m r 0 k n ≡ walkFrom t m r b k n
+      walkFrom t m v 0 k b n ≡ walkFrom t m v d k b n
   unfolding walkFrom
   at-rest zero e = refl
-  at-rest (suc b) e = settles (damaged t n) (eqb (wordOf t n kindAt) 0) e _ _ _
+  at-rest (suc d) e = settles (damaged t n) (eqb (wordOf t n kindAt) 0) e _ _ _
 
 -- One question more is asked, one fewer is left.
 pub at-question :
-    (t : List ℕ) (m : ℕ) (r : ℕ → Reading) (n a l : ℕ) →
+    (t : List ℕ) (m : ℕ) (v : ℕ → Seen) (b : Bool) (n a l : ℕ) →
     l < a →
     damaged t n ≡ false →
     eqb (wordOf t n kindAt) 0 ≡ false →
-    walkFrom t m r (suc l) (a - suc l) n ≡ onward (ltb (nextOf t r n) m) (walkFrom t m r l (a - l) (nextOf t r n))
+    walkFrom t m v (suc l) (a - suc l) b n ≡ onward (ltb (nextOf t v n) m) (walkFrom t m v l (a - l) (b || cutOf t v n) (nextOf t v n))
 unfolding walkFrom arrive
-at-question t m r n a l h e f =
+at-question t m v b n a l h e f =
     let asked : a - suc l + 1 ≡ a - l = omega arith in
     rw (e, f, asked)
 
@@ -105,33 +107,33 @@ ends-words :
 unfolding endsAt
 ends-words t n l = rw (read-word t n 0 (omega arith), read-word t n 1 (omega arith))
 
-module _ {t : List ℕ} {m : ℕ} {r : ℕ → Reading} {a l n : ℕ} (w : Walking t m r a l n) where
+module _ {t : List ℕ} {m : ℕ} {v : ℕ → Seen} {a l : ℕ} {b : Bool} {n : ℕ} (w : Walking t m v a l b n) where
   ended-by :
       (used : Bool) →
       eqb l 0 ≡ used →
       (eqb (wordOf t n kindAt) 0 || ltb kindAtLeast (wordOf t n kindAt) || ltb lastField (wordOf t n fieldAt) || used) ≡ true →
-      walkFrom t m r 0 (a - l) n ≡ walkFrom t m r l (a - l) n
+      walkFrom t m v 0 (a - l) b n ≡ walkFrom t m v l (a - l) b n
   unfolding damaged
   ended-by true h e = rw (eqb-true l 0 h)
   ended-by false h e =
-      at-rest t m r (a - l) n l
+      at-rest t m v (a - l) b n l
       (covered (eqb (wordOf t n kindAt) 0) (ltb kindAtLeast (wordOf t n kindAt)) (ltb lastField (wordOf t n fieldAt))
       (sym (or-false _) ∙ e))
 
   -- The walk that goes no further shows what the record shows.
-  pub ended : endsAt (window t n) l ≡ true → endAt (window t n) (a - l) ≡ walkFrom t m r a 0 0
-  ended e = at-end t m r (a - l) n ∙ ended-by (eqb l 0) refl (sym (ends-words t n l) ∙ e) ∙ w .rest
+  pub ended : endsAt (window t n) l ≡ true → endAt (window t n) (a - l) b ≡ walkFrom t m v a 0 false 0
+  ended e = at-end t m v (a - l) b n ∙ ended-by (eqb l 0) refl (sym (ends-words t n l) ∙ e) ∙ w .rest
 
-pub record Asking (t : List ℕ) (m : ℕ) (r : ℕ → Reading) (a l n : ℕ) : Type 0 where
+pub record Asking (t : List ℕ) (m : ℕ) (v : ℕ → Seen) (a l : ℕ) (b : Bool) (n : ℕ) : Type 0 where
   pub some : 0 < l
   pub within : l ≤ a
   pub known : read t n fieldAt < fieldCount
   pub rest :
-      onward (ltb (nextOf t r n) m) (walkFrom t m r (l - 1) (a - (l - 1)) (nextOf t r n)) ≡
-      walkFrom t m r a 0 0
+      onward (ltb (nextOf t v n) m) (walkFrom t m v (l - 1) (a - (l - 1)) (b || cutOf t v n) (nextOf t v n)) ≡
+      walkFrom t m v a 0 false 0
 
-module _ {t : List ℕ} {m : ℕ} {r : ℕ → Reading} {a l n : ℕ} where
-  pub asking : Walking t m r a l n → endsAt (window t n) l ≡ false → Asking t m r a l n
+module _ {t : List ℕ} {m : ℕ} {v : ℕ → Seen} {a l : ℕ} {b : Bool} {n : ℕ} where
+  pub asking : Walking t m v a l b n → endsAt (window t n) l ≡ false → Asking t m v a l b n
   unfolding damaged
   asking w e =
       let free =
@@ -140,34 +142,43 @@ module _ {t : List ℕ} {m : ℕ} {r : ℕ → Reading} {a l n : ℕ} where
       let left : 0 < l = pos-of-ne-zero (eqb-false l 0 (free .3)) in
       let fewer : l - 1 < a = omega (arith, w .within) in
       let more : l ≡ suc (l - 1) = omega arith in
-      let whole : walkFrom t m r (suc (l - 1)) (a - suc (l - 1)) n ≡ walkFrom t m r a 0 0 = rw more at (w .rest) in
+      let whole : walkFrom t m v (suc (l - 1)) (a - suc (l - 1)) b n ≡ walkFrom t m v a 0 false 0 = rw more at (w .rest) in
       let low : wordOf t n fieldAt ≤ 13 = ltb-false 13 (wordOf t n fieldAt) (free .2) in
       record {
         some = left;
         within = w .within;
         known = omega (arith, read-word t n fieldAt (omega arith));
-        rest = sym (at-question t m r n a (l - 1) fewer (free .1) (free .0)) ∙ whole;
+        rest = sym (at-question t m v b n a (l - 1) fewer (free .1) (free .0)) ∙ whole;
       }
 
   -- The way leads to no record, or to the next.
-  pub lost : Asking t m r a l n → (next : ℕ) → nextOf t r n ≡ next → m ≤ next → Refused 13 ≡ walkFrom t m r a 0 0
+  pub lost : Asking t m v a l b n → (next : ℕ) → nextOf t v n ≡ next → m ≤ next → Refused 13 ≡ walkFrom t m v a 0 false 0
   unfolding onward
   lost q next e h = rw (e, le-ltb next m h) at (q .rest)
 
-  pub moved : Asking t m r a l n → (next : ℕ) → nextOf t r n ≡ next → next < m → Walking t m r a (l - 1) next
+  pub moved : Asking t m v a l b n → (next : ℕ) → nextOf t v n ≡ next → next < m → Walking t m v a (l - 1) (b || cutOf t v n) next
   unfolding onward
   moved q next e h =
       record { inside = h; within = omega (arith, q .within); rest = rw (e, lt-ltb next m h) at (q .rest) }
 
+-- A question of a field that has a value leaves the mark.
+pub unmarked : (t : List ℕ) (v : ℕ → Seen) (n x : ℕ) → readingOf (v (wordOf t n fieldAt)) ≡ Value x → (b : Bool) → (b || cutOf t v n) ≡ b
+unfolding cutOf
+unmarked t v n x e b = rw (value-uncut (v (wordOf t n fieldAt)) e) (or-false b)
+
 -- The way that the code takes is the way of the definition.
-module _ (t : List ℕ) (r : ℕ → Reading) (n : ℕ) where
-  pub way-absent : r (read t n 1) ≡ Absent → nextOf t r n ≡ read t n 6
+module _ (t : List ℕ) (v : ℕ → Seen) (n : ℕ) where
+  pub way-absent : readingOf (v (read t n 1)) ≡ Absent → nextOf t v n ≡ read t n 6
   unfolding nextOf nextBy
   way-absent e = rw (← read-word t n 1 (omega arith), e, read-word t n 6 (omega arith))
 
-  module _ (x : ℕ) (e : r (read t n 1) ≡ Value x) where
+  pub mark-absent : isCut (v (read t n 1)) ≡ cutOf t v n
+  unfolding cutOf
+  mark-absent = rw (read-word t n 1 (omega arith))
+
+  module _ (x : ℕ) (e : readingOf (v (read t n 1)) ≡ Value x) where
     way-value :
-        nextOf t r n ≡
+        nextOf t v n ≡
         cond (holds (testOf (read t n 0) (read t n 2) (read t n 3)) x) (read t n 4) (read t n 5)
     unfolding nextOf nextBy
     way-value =
@@ -181,8 +192,11 @@ module _ (t : List ℕ) (r : ℕ → Reading) (n : ℕ) where
           read-word t n 5 (omega arith),
         )
 
-    pub way-holds : holds (testOf (read t n 0) (read t n 2) (read t n 3)) x ≡ true → nextOf t r n ≡ read t n 4
+    pub mark-stays : (b : Bool) → (b || cutOf t v n) ≡ b
+    mark-stays = unmarked t v n x (rw (← read-word t n 1 (omega arith)) e)
+
+    pub way-holds : holds (testOf (read t n 0) (read t n 2) (read t n 3)) x ≡ true → nextOf t v n ≡ read t n 4
     way-holds h = way-value ∙ rw h
 
-    pub way-fails : holds (testOf (read t n 0) (read t n 2) (read t n 3)) x ≡ false → nextOf t r n ≡ read t n 5
+    pub way-fails : holds (testOf (read t n 0) (read t n 2) (read t n 3)) x ≡ false → nextOf t v n ≡ read t n 5
     way-fails h = way-value ∙ rw h

@@ -1,13 +1,16 @@
 // A frame is walked through a table (document 01, "Refusal numbers", the paragraph on classifying).
 ghost use mathlib.Core.Path.{_≡_};
-ghost use Prim.Native.Nat.{_+_, _-_, _*_, _<_, _≤_};
+ghost use Prim.Native.Nat.{ℕ, _+_, _-_, _*_, _<_, _≤_};
 ghost use lib.ListN.{length};
 ghost use Rattle.residue.specs.Tests.{holds};
-ghost use Rattle.fields.specs.Header.{readingAt};
+ghost use mathlib.Core.Bool.{false};
+ghost use Rattle.fields.specs.Header.{Header, presentSet};
+ghost use Rattle.fields.specs.inner.Sight.{seenAt};
+ghost use Rattle.fields.specs.inner.Parts.{lacking};
 ghost use Rattle.lists.specs.Filters.{testOf};
 ghost use Rattle.tables.specs.Tables.{recordWords, maxSlots};
 ghost use Rattle.matcher.specs.Walk.{walkFrom, walk};
-ghost use Rattle.matcher.specs.inner.Records.{endsAt, endAt};
+ghost use Rattle.matcher.specs.inner.Records.{endsAt, endAt, meets};
 ghost use Rattle.matcher.specs.inner.Chains.{linksAt, Chained};
 ghost use Rattle.fields.specs.Widths.{fieldCount};
 use fields::FIELDS;
@@ -34,11 +37,13 @@ use tables::VALUE_AT;
 
 const MAX_STATES: u32 = MAX_SLOTS as u32;
 
-// What the record shows that a walk ended at: its sure set and its out set; and the questions asked.
+// What the record shows that a walk ended at: its sure set and its out set; the questions asked; and whether some of them met
+// a cut field.
 pub struct Found {
     pub sure: Set,
     pub out: Set,
     pub asked: u32,
+    pub cut: bool,
 }
 
 // The end of a walk: at a final record, or with the allowance used, each with what was found; or refused, with its number.
@@ -85,13 +90,18 @@ fn ends(words: &[u32], left: u32) -> bool
 }
 
 // The answer at such a record. Damage comes before the allowance; the field of a final record is not looked at.
-fn end(words: &[u32], asked: u32) -> Answer
+fn end(words: &[u32], asked: u32, cut: bool) -> Answer
     requires { ⌜ recordWords ≤ length (now words) ⌝ }
-    ensures { λ r. ⌜ r ≡ endAt (now (words .entry)) asked ⌝ }
+    ensures { λ r. ⌜ r ≡ endAt (now (words .entry)) asked cut ⌝ }
 {
     let sure = words[SURE_AT];
     let out = words[OUT_AT];
-    let found = Found { sure, out, asked };
+    let found = Found {
+        sure,
+        out,
+        asked,
+        cut,
+    };
     if words[KIND_AT] == 0 {
         return Answer::Done(found);
     }
@@ -159,24 +169,45 @@ fn follow(table: &[u32], s: u32, next: u32, field: u32, x: u32, states: u32, lef
     place
 }
 
+// Whether one of the absent fields that questions met is cut. Most walks meet none, and the frame is not looked at again. Their
+// set is wider than the present set so that no bit is made for both, which each question would pay for.
+fn marked(frame: &[u8], present: u32, met: u64) -> bool
+    requires { ⌜ ((p : ℕ) × (present ≡ presentSet (now frame) p)) ⌝ }
+    ensures { λ r. ⌜ r ≡ meets (lacking (now (frame .entry)) present) met ⌝ }
+{
+    if met == 0 {
+        return false;
+    }
+    fields::cut_set(frame, present) as u64 & met != 0
+}
+
 // The walk from record 0 on, over a header that was read. Each way has its own load and its own test:
 // one `next` for all ways would make each record wait for the one before it.
-fn walk_from(present: u32, values: &Values, table: &[u32], states: u32, allowance: u32) -> Answer
-    requires { ⌜ 0 < states ⌝ ∗ ⌜ states ≤ maxSlots ⌝ ∗ ⌜ recordWords * states ≤ length (now table) ⌝ }
-    ensures { λ r. ⌜ r ≡ walkFrom (now (table .entry)) states (readingAt present (now (values .entry))) allowance 0 0 ⌝ }
+fn walk_from(
+    frame: &[u8],
+    present: u32,
+    values: &Values,
+    table: &[u32],
+    states: u32,
+    allowance: u32,
+) -> Answer
+    requires { ⌜ 0 < states ⌝ ∗ ⌜ states ≤ maxSlots ⌝ ∗ ⌜ recordWords * states ≤ length (now table) ⌝ ∗ ⌜ ((p : ℕ) × (present ≡ presentSet (now frame) p)) ⌝ }
+    ensures { λ r. ⌜ r ≡ walkFrom (now (table .entry)) states (seenAt present (lacking (now (frame .entry)) present) (now (values .entry))) allowance 0 false 0 ⌝ }
 {
     let mut at = Place {
         s: 0,
         left: allowance,
     };
+    let mut met: u64 = 0;
     loop {
         let b = RECORD_WORDS * at.s as usize;
         let words = &table[b..b + RECORD_WORDS];
         if ends(words, at.left) {
-            return end(words, allowance - at.left);
+            return end(words, allowance - at.left, marked(frame, present, met));
         }
         at.left -= 1;
         let Reading::Value(x) = fields::reading_at(present, values, words[FIELD_AT]) else {
+            met = met | (1u64 << words[FIELD_AT]);
             at.s = words[ABSENT_AT];
             if states <= at.s {
                 return Answer::Refused(13);
@@ -198,8 +229,19 @@ fn walk_from(present: u32, values: &Values, table: &[u32], states: u32, allowanc
     }
 }
 
+// A header as `fields::read_header` reads it. Each of its steps is short enough that the compiler puts a copy of it here; all of them
+// together, which others call too, would be a call.
+fn read_header(frame: &[u8], port: u8, values: &mut Values) -> u32
+    ensures { λ r. ⌜ Header (now (frame .entry)) port (now (values .entry)) (now (values .exit)) r ⌝ }
+{
+    let begun = fields::read_ethernet(frame, port, values);
+    let packet = begun.packet;
+    let set = fields::read_internet(frame, packet, begun.present, values);
+    fields::read_transport(frame, packet, set, values)
+}
+
 // The answer for any frame, table and number of states. The number is held to the table's words by a product, which needs no division.
-pub fn classify(frame: &[u8], port: u8, table: &[u32], states: u32, allowance: u32) -> Answer
+fn walk_frame(frame: &[u8], port: u8, table: &[u32], states: u32, allowance: u32) -> Answer
     ensures { λ r. ⌜ r ≡ walk (now (frame .entry)) port (now (table .entry)) states allowance ⌝ }
 {
     if MAX_FRAME < frame.len() {
@@ -215,6 +257,14 @@ pub fn classify(frame: &[u8], port: u8, table: &[u32], states: u32, allowance: u
         return Answer::Refused(13);
     }
     let mut values = [0u32; FIELDS];
-    let present = fields::read_header(frame, port, &mut values);
-    walk_from(present, &values, table, states, allowance)
+    let present = read_header(frame, port, &mut values);
+    walk_from(frame, present, &values, table, states, allowance)
+}
+
+// The same, as a call. Frame and table are lent anew: the compiler hands a slice over in registers only to a function that takes parts of
+// it and does not pass it on.
+pub fn classify(frame: &[u8], port: u8, table: &[u32], states: u32, allowance: u32) -> Answer
+    ensures { λ r. ⌜ r ≡ walk (now (frame .entry)) port (now (table .entry)) states allowance ⌝ }
+{
+    walk_frame(&frame[..], port, &table[..], states, allowance)
 }

@@ -16,6 +16,7 @@ fn put_found(found: Found) {
     put_word(found.sure);
     put_word(found.out);
     put_word(found.asked);
+    put_word(found.cut as u32);
     io::write_all(STDOUT_FILENO, b"\n");
 }
 
@@ -295,6 +296,10 @@ fn lengths(frame: &[u8], t: &[u32]) {
     run(b"empty frame", none, t, 10, 9);
     let bare = &frame[0..13];
     run(b"frame of 13 bytes", bare, t, 10, 9);
+    let ended = &frame[0..34];
+    run(b"frame of 34 bytes, allowance 0", ended, t, 10, 0);
+    run(b"frame of 34 bytes, allowance 1", ended, t, 10, 1);
+    run(b"frame of 34 bytes, 8 states", ended, t, 8, 9);
     let most = &frame[0..1522];
     run(b"frame of 1522 bytes", most, t, 10, 9);
     run(b"frame of 1523 bytes", frame, t, 10, 9);

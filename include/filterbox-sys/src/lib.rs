@@ -23,6 +23,15 @@ pub struct Answer {
     pub sure: Set,
     pub out: Set,
     pub asked: u32,
+    pub cut: u32,
+}
+
+/// What reading one field answers.
+#[repr(C)]
+#[derive(Clone, Copy, PartialEq, Eq, Debug)]
+pub struct Field {
+    pub kind: u32,
+    pub value: u32,
 }
 
 /// What scanning answers.
@@ -109,6 +118,8 @@ calls! {
     ) -> Judged;
 
     fn filterbox_clear(tallies: *mut u32, tallies_len: usize) -> ();
+
+    fn filterbox_field(frame: *const u8, frame_len: usize, port: u8, number: u32) -> Field;
 
     fn filterbox_scratch_words() -> u32;
 }
@@ -203,6 +214,13 @@ pub fn judge(
 pub fn clear(tallies: &mut [u32]) {
     // SAFETY: as above.
     unsafe { filterbox_clear(tallies.as_mut_ptr(), tallies.len()) }
+}
+
+/// Reads one field of a frame.
+#[inline(always)]
+pub fn field(frame: &[u8], port: u8, number: u32) -> Field {
+    // SAFETY: as above; the call writes nothing.
+    unsafe { filterbox_field(frame.as_ptr(), frame.len(), port, number) }
 }
 
 /// The scratch words that a slot takes.

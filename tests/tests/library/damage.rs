@@ -26,7 +26,7 @@ pub fn run(runner: &mut Runner, coverage: &mut Coverage) {
     runner.check("classifying_writes_nothing_lent", || writes_nothing(coverage));
 }
 
-const DAMAGED: Answer = Answer { ended: REFUSED, refusal: 13, sure: 0, out: 0, asked: 0 };
+const DAMAGED: Answer = Answer { ended: REFUSED, refusal: 13, sure: 0, out: 0, asked: 0, cut: 0 };
 
 /// The decided reading of when a record is checked and what of it is looked at.
 fn record_checks(coverage: &mut Coverage) {
@@ -38,17 +38,17 @@ fn record_checks(coverage: &mut Coverage) {
     assert_eq!(answer(&[5, 0, 0, 0, 0, 0, 0, 1, 2], 1, 0), DAMAGED);
     assert_eq!(answer(&[1, 14, 0, 0, 0, 0, 0, 1, 2], 1, 0), DAMAGED);
     // Kind 0 is done at allowance 0, whatever its field.
-    let done = Answer { ended: DONE, refusal: 0, sure: 1, out: 2, asked: 0 };
+    let done = Answer { ended: DONE, refusal: 0, sure: 1, out: 2, asked: 0, cut: 0 };
     assert_eq!(answer(&[0, 99, 7, 7, 99, 99, 99, 1, 2], 1, 0), done);
     // A next state out of range counts only where a way is taken.
     let circle = [1, 13, 255, 0, 1, 1, 1, 1, 2];
-    let stopped = Answer { ended: STOPPED, refusal: 0, sure: 1, out: 2, asked: 0 };
+    let stopped = Answer { ended: STOPPED, refusal: 0, sure: 1, out: 2, asked: 0, cut: 0 };
     assert_eq!(answer(&circle, 1, 0), stopped);
     assert_eq!(answer(&circle, 1, 1), DAMAGED);
     assert_eq!(answer(&circle, 1, u32::MAX), DAMAGED);
     // Only the next state that is chosen is looked at.
     let chosen = [[1, 13, 255, 0, 1, 9, 9, 0, 0], [0, 0, 0, 0, 0, 0, 0, 4, 8]].concat();
-    let done = Answer { ended: DONE, refusal: 0, sure: 4, out: 8, asked: 1 };
+    let done = Answer { ended: DONE, refusal: 0, sure: 4, out: 8, asked: 1, cut: 0 };
     assert_eq!(answer(&chosen, 2, 1), done);
     // The record behind the last allowed question is checked as well.
     let behind = [[1, 13, 255, 0, 1, 9, 9, 0, 0], [7, 0, 0, 0, 0, 0, 0, 4, 8]].concat();
@@ -230,7 +230,8 @@ fn circle(coverage: &mut Coverage) {
     let frame = Frame { bytes: Vec::new(), port: 9 };
     for allowance in [0, 1, 2, 1000, 1_000_000] {
         let answer = classify_noted(&frame, &table, 1, allowance, coverage);
-        let should = Answer { ended: STOPPED, refusal: 0, sure: 3, out: 5, asked: allowance };
+        let should =
+            Answer { ended: STOPPED, refusal: 0, sure: 3, out: 5, asked: allowance, cut: 0 };
         assert_eq!(answer, should);
     }
 }

@@ -146,7 +146,7 @@ fn long_frames(coverage: &mut Coverage) {
         let frame = Frame { bytes, port: 0 };
         for allowance in [0, 1, u32::MAX] {
             let answer = classify_noted(&frame, &built.table, 10, allowance, coverage);
-            let refused = Answer { ended: REFUSED, refusal: 12, sure: 0, out: 0, asked: 0 };
+            let refused = Answer { ended: REFUSED, refusal: 12, sure: 0, out: 0, asked: 0, cut: 0 };
             assert_eq!(answer == refused, length > MOST_FRAME, "{length} bytes: {answer:?}");
             // 12 comes before 13.
             let answer = classify_noted(&frame, &built.table, 0, allowance, coverage);

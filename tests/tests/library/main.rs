@@ -2,6 +2,7 @@
 //! prints the list, the frame and both answers. At the end comes what the run has met: none of it
 //! may be zero.
 
+mod cuts;
 mod damage;
 mod edges;
 mod faults;
@@ -30,6 +31,7 @@ fn main() {
     groups::run(&mut runner, &mut coverage);
     faults::run(&mut runner, &mut coverage);
     headers::run(&mut runner, &mut coverage);
+    cuts::run(&mut runner, &mut coverage);
     damage::run(&mut runner, &mut coverage);
     lamp::run(&mut runner, &mut coverage);
     rooms::run(&mut runner, &mut coverage);

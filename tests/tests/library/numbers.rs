@@ -61,7 +61,7 @@ fn words_89_and_90(coverage: &mut Coverage) {
 fn echo_allowances(coverage: &mut Coverage) {
     let built = build_in_slots(&ECHO, 10, coverage);
     let frame = echo_request(1);
-    let expect = |ended, sure, out, asked| Answer { ended, refusal: 0, sure, out, asked };
+    let expect = |ended, sure, out, asked| Answer { ended, refusal: 0, sure, out, asked, cut: 0 };
     for (allowance, should) in [
         (0, expect(STOPPED, 0, 0, 0)),
         (1, expect(STOPPED, 1, 2, 1)),
@@ -90,7 +90,7 @@ fn empty_list(coverage: &mut Coverage) {
     assert_eq!(built.states(), 1);
     assert_eq!(built.table[..RECORD_WORDS], [0; RECORD_WORDS]);
     let answer = classify_noted(&echo_request(1), &built.table, 1, 0, coverage);
-    assert_eq!(answer, Answer { ended: DONE, refusal: 0, sure: 0, out: 0, asked: 0 });
+    assert_eq!(answer, Answer { ended: DONE, refusal: 0, sure: 0, out: 0, asked: 0, cut: 0 });
 }
 
 fn filters_32_and_33(coverage: &mut Coverage) {

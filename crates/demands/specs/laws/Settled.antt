@@ -10,6 +10,8 @@ use mathlib.Core.List.{List}
 use lib.ListN.{length, drop}
 use Rattle.residue.specs.declared.Reading.{Reading}
 use Rattle.fields.specs.Fields.{field}
+use Rattle.fields.specs.Seen.{seen}
+use Rattle.fields.specs.declared.Seen.{Seen}
 use Rattle.sets.specs.Sets.{member}
 use Rattle.lists.specs.Filters.{Filter, filtersOf, testsIn}
 use Rattle.lists.specs.Ranks.{matches}
@@ -27,9 +29,9 @@ use Rattle.scanner.specs.laws.Scans.{scanned-set}
 use Rattle.scanner.specs.declared.Scanned.the-variants.{Matched}
 use Rattle.lamp.specs.Lamp.{numbersOf, lampOf}
 use Rattle.builder.specs.Outcome.{refusalOf, numberOf, placed, outcome}
-use Rattle.labels.specs.Labels.{shownAt, Legal}
+use Rattle.labels.specs.Labels.{shownAt, readings, metIn, Legal}
 use Rattle.labels.specs.inner.Labelled.{LabelledBy}
-use Rattle.labels.specs.laws.Truths.{Shows, open-member, legal-widths, labelled-shows, labelled-keeps, picked-run, shows-done, shows-matches, shows-set, shows-settled, shows-sure, shows-out, shows-asked}
+use Rattle.labels.specs.laws.Truths.{Shows, open-member, seen-field, legal-widths, labelled-shows, labelled-keeps, picked-run, shows-done, shows-matches, shows-set, shows-settled, shows-sure, shows-out, shows-asked}
 use Rattle.demands.specs.laws.Labelled.{built-labelled}
 use Rattle.demands.specs.laws.Lamps.{labelled-lamp}
 use Rattle.demands.specs.laws.Builds.{Success, build-success}
@@ -54,34 +56,37 @@ module _ (l t s : List ℕ) (built : refusalOf (outcome l t s .answer) ≡ 0) wh
     abbrev r : ℕ → Reading
     r = field f p
 
-    shows : (a : ℕ) → Shows Picked fs r a (walked l t s f p a)
+    abbrev v : ℕ → Seen
+    v = seen f p
+
+    shows : (a : ℕ) → Shows Picked fs v a (walked l t s f p a)
     shows = labelled-shows question-left (success .well) table-labelled f p legal
 
-    widths : InWidths r
+    widths : InWidths (readings v)
     widths = legal-widths f p legal
 
-    pub exact : (a : ℕ) → walked l t s f p a ≡ shownAt fs (after fs r a) (askedIn fs r a (start fs))
-    exact a = picked-run (shows a)
+    pub exact : (a : ℕ) → walked l t s f p a ≡ shownAt fs (after fs r a) (askedIn fs r a (start fs)) (metIn fs v a (start fs))
+    exact a = rw (seen-field f p) at (picked-run (shows a))
 
     pub all-done : (a : ℕ) → testsIn fs ≤ a → isDone (walked l t s f p a) ≡ true
     all-done a = shows-done question-left (success .well) widths (shows a)
 
     pub all-matches : (a : ℕ) → testsIn fs ≤ a → (i : ℕ) → member i (found (walked l t s f p a) .sure) ≡ matches fs r i
-    all-matches a = shows-matches question-left (success .well) widths (shows a)
+    all-matches a enough i = rw (seen-field f p) at (shows-matches question-left (success .well) widths (shows a) enough i)
 
     pub all-scanned : (a : ℕ) → testsIn fs ≤ a → scanned l f p ≡ Matched (found (walked l t s f p a) .sure)
     all-scanned a enough =
         scanned-set l f p (success .listing .0) (success .listing .1) (success .listing .2) (legal .short) ∙
-        ap Matched (sym (shows-set question-left (success .well) widths (shows a) enough))
+        ap Matched (sym (rw (seen-field f p) at (shows-set question-left (success .well) widths (shows a) enough)))
 
     pub all-lamps : numbersOf (lampOf l f p (outcome l t s .table) (numberOf (outcome l t s .answer))) .refusal ≡ 0
     all-lamps = labelled-lamp l f p _ _ (success .listing .0) (success .listing .1) (success .listing .2) (legal .short) table-labelled
 
     pub sure-so : (a i : ℕ) → member i (found (walked l t s f p a) .sure) ≡ true → matches fs r i ≡ true
-    sure-so a = shows-sure question-left (success .well) widths (shows a)
+    sure-so a i e = rw (seen-field f p) at (shows-sure question-left (success .well) widths (shows a) i e)
 
     pub out-so : (a i : ℕ) → member i (found (walked l t s f p a) .out) ≡ true → matches fs r i ≡ false
-    out-so a = shows-out question-left (success .well) widths (shows a)
+    out-so a i e = rw (seen-field f p) at (shows-out question-left (success .well) widths (shows a) i e)
 
     pub sure-kept : (a a' i : ℕ) → a ≤ a' → member i (found (walked l t s f p a) .sure) ≡ true → member i (found (walked l t s f p a') .sure) ≡ true
     sure-kept a a' i more = labelled-keeps question-left (success .well) table-labelled f p legal a a' i more .0
@@ -96,7 +101,7 @@ module _ (l t s : List ℕ) (built : refusalOf (outcome l t s .answer) ≡ 0) wh
 
     -- In neither set is open.
     pub open-so : (a i : ℕ) → i < length fs → (not (member i (found (walked l t s f p a) .sure)) && not (member i (found (walked l t s f p a) .out))) ≡ isOpen fs (after fs r a) i
-    open-so a i inside = rw (exact a) (open-member fs (after fs r a) (askedIn fs r a (start fs)) i inside)
+    open-so a i inside = rw (exact a) (open-member fs (after fs r a) (askedIn fs r a (start fs)) (metIn fs v a (start fs)) i inside)
 
     pub asked-few : (a : ℕ) → (found (walked l t s f p a) .asked ≤ a) × (found (walked l t s f p a) .asked ≤ testsIn fs)
     asked-few a = shows-asked question-left (success .well) widths (shows a)

@@ -1,4 +1,4 @@
--- What fields 1 to 7 say of a frame's lengths.
+-- What fields 1 to 7 say of a frame's version and lengths.
 use Prim.Native.Nat.{ℕ, _+_, _≤_}
 use mathlib.Core.Path.{_≡_}
 use mathlib.Core.Bool.{true, _&&_}
@@ -13,6 +13,7 @@ use Rattle.fields.specs.Ipv4.{internet, version, headerLength, totalLeng
 pub record Lengths (f : List ℕ) : Type 0 where
   pub type : etherType f ≡ 0x0800
   pub whole : 34 ≤ length f
+  pub four : version f ≡ 4
   pub least : 20 ≤ headerLength f
   pub header : headerLength f ≤ totalLength f
   pub inside : ipStart + totalLength f ≤ length f
@@ -28,10 +29,12 @@ internet-lengths f h =
     let c6 = leb (ipStart + totalLength f) (length f) in
     let h5 = first (c1 && c2 && c3 && c4 && c5) c6 h in
     let h4 = first (c1 && c2 && c3 && c4) c5 h5 in
-    let h2 = first (c1 && c2) c3 (first (c1 && c2 && c3) c4 h4) in
+    let h3 = first (c1 && c2 && c3) c4 h4 in
+    let h2 = first (c1 && c2) c3 h3 in
     record {
       type = eqb-true _ _ (first c1 c2 h2);
       whole = leb-true _ _ (second c1 c2 h2);
+      four = eqb-true _ _ (second (c1 && c2) c3 h3);
       least = leb-true _ _ (second (c1 && c2 && c3) c4 h4);
       header = leb-true _ _ (second (c1 && c2 && c3 && c4) c5 h5);
       inside = leb-true _ _ (second (c1 && c2 && c3 && c4 && c5) c6 h);

@@ -1,4 +1,4 @@
--- `fields_cases::show` counts to 15 and prints; the line end keeps its one byte.
+-- `fields_cases::show` counts to 15 and prints; the line end keeps its one byte, and the cut set is that of the set just read.
 -- Assumes nothing.
 use Prim.Native.Nat.{_≤_, _-_}
 use mathlib.Core.Path.{_≡_}
@@ -8,10 +8,10 @@ use Rattle.fields_cases.proofs.show.Statement.{statement}
 use Rattle.fields_cases.proofs.show.Tie as tie
 
 abbrev Inv-loop : tie.InvT-loop
-Inv-loop label frame values present i₀ t7 i = (i ≤ 15) × (length t7 ≡ 1)
+Inv-loop label frame present i₀ t7 i = (i ≤ 15) × (length t7 ≡ 1)
 
 abbrev μ-loop : tie.MeasureT-loop
-μ-loop label frame values present i₀ t7 i = 15 - i
+μ-loop label frame present i₀ t7 i = 15 - i
 
 write-all-requires : tie.Need-write-all-requires Inv-loop μ-loop
 write-all-requires c κs = search needs
@@ -34,14 +34,23 @@ cast-print-number c = search needs
 print-number-requires-2 : tie.Need-print-number-requires-2 Inv-loop μ-loop
 print-number-requires-2 c κs = search needs
 
+cut-set-requires : tie.Need-cut-set-requires Inv-loop μ-loop
+cut-set-requires c κs = (_, c .before .read-header .ensures .set)
+
+cast-print-number-2 : tie.Need-cast-print-number-2 Inv-loop μ-loop
+cast-print-number-2 c = search needs
+
+print-number-requires-3 : tie.Need-print-number-requires-3 Inv-loop μ-loop
+print-number-requires-3 c κs = search needs
+
 loop-holds : tie.Need-loop-holds Inv-loop μ-loop
 loop-holds c = search needs
 
-reading-at-requires : tie.Need-reading-at-requires Inv-loop μ-loop
-reading-at-requires c κs = search needs
+read-field-requires : tie.Need-read-field-requires Inv-loop μ-loop
+read-field-requires c κs = search needs
 
-print-reading-requires : tie.Need-print-reading-requires Inv-loop μ-loop
-print-reading-requires c κs = search needs
+print-seen-requires : tie.Need-print-seen-requires Inv-loop μ-loop
+print-seen-requires c κs = search needs
 
 add-i : tie.Need-add-i Inv-loop μ-loop
 add-i c = search needs
@@ -74,9 +83,12 @@ show-spec =
     read-header-requires
     cast-print-number
     print-number-requires-2
+    cut-set-requires
+    cast-print-number-2
+    print-number-requires-3
     loop-holds
-    reading-at-requires
-    print-reading-requires
+    read-field-requires
+    print-seen-requires
     add-i
     loop-less
     loop-again

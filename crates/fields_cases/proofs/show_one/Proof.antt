@@ -23,8 +23,8 @@ slice-aggregate-read-field c =
 read-field-requires : tie.Need-read-field-requires
 read-field-requires c κs = search needs
 
-print-reading-requires : tie.Need-print-reading-requires
-print-reading-requires c κs = search needs
+print-seen-requires : tie.Need-print-seen-requires
+print-seen-requires c κs = search needs
 
 returns : tie.Need-returns
 returns c = search needs
@@ -38,5 +38,5 @@ show-one-spec =
     array-share-prefix-f
     slice-aggregate-read-field
     read-field-requires
-    print-reading-requires
+    print-seen-requires
     returns)

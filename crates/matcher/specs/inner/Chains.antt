@@ -7,8 +7,9 @@ use mathlib.Core.Bool.{Bool, not, _&&_}
 use mathlib.Core.List.{List}
 use lib.Dec.{eqb}
 use lib.Bits.{bitAnd}
-use Rattle.residue.specs.declared.Reading.{Reading}
 use Rattle.residue.specs.declared.Reading.the-variants.{Value}
+use Rattle.fields.specs.Seen.{readingOf}
+use Rattle.fields.specs.declared.Seen.{Seen}
 use Rattle.lists.specs.Filters.{kindEqual, kindAt, fieldAt, maskAt, valueAt}
 use Rattle.tables.specs.Tables.{failsAt}
 use Rattle.matcher.specs.Walk.{walkFrom}
@@ -21,13 +22,14 @@ linksAt w f x n =
     not (eqb (bitAnd x (wordIn w maskAt)) (wordIn w valueAt)) &&
     eqb (wordIn w failsAt) n
 
--- The questions asked are what is gone of the allowance a.
+-- The questions asked are what is gone of the allowance a; none of them meets a cut field.
 pub record Chained (t : List ℕ) (m f x l s q n : ℕ) : Type 0 where
   pub within : q ≤ l
   pub inside : n < m
   pub same :
-      (r : ℕ → Reading) →
-      r f ≡ Value x →
+      (v : ℕ → Seen) →
+      readingOf (v f) ≡ Value x →
       (a : ℕ) →
       l ≤ a →
-      walkFrom t m r l (a - l) s ≡ walkFrom t m r q (a - q) n
+      (b : Bool) →
+      walkFrom t m v l (a - l) b s ≡ walkFrom t m v q (a - q) b n

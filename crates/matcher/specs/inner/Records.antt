@@ -1,11 +1,13 @@
 -- What the nine words of one record say, apart from the table.
 --   endsAt w l   the walk goes no further at such a record, with l questions left: it is final, damaged, or the allowance is used
---   foundIn w k  what such a record shows, with k questions asked
---   endAt w k    what the walk then answers
+--   meets c s      two sets have a field in common
+--   foundIn w k b  what such a record shows, with k questions asked, of which some met a cut field where b says so
+--   endAt w k b    what the walk then answers
 use Prim.Native.Nat.{ℕ, _-_}
 use mathlib.Core.Bool.{Bool, not, _&&_, _||_}
 use mathlib.Core.List.{List}
 use lib.Dec.{leb, ltb, eqb}
+use lib.Bits.{bitAnd}
 use lib.ListN.{getD}
 use Rattle.fields.specs.Widths.{fieldCount}
 use Rattle.lists.specs.Filters.{kindAtLeast, kindAt, fieldAt}
@@ -24,12 +26,15 @@ wordIn w j = getD w j 0
 unfoldable pub endsAt : List ℕ → ℕ → Bool
 endsAt w l = eqb (wordIn w kindAt) 0 || ltb kindAtLeast (wordIn w kindAt) || ltb lastField (wordIn w fieldAt) || eqb l 0
 
-unfoldable pub foundIn : List ℕ → ℕ → Found
-foundIn w k = record { sure = setAt (wordIn w) sureAt; out = setAt (wordIn w) outAt; asked = k }
+unfoldable pub meets : ℕ → ℕ → Bool
+meets c s = not (eqb (bitAnd c s) 0)
 
-unfoldable pub endAt : List ℕ → ℕ → Answer
-endAt w k =
+unfoldable pub foundIn : List ℕ → ℕ → Bool → Found
+foundIn w k b = record { sure = setAt (wordIn w) sureAt; out = setAt (wordIn w) outAt; asked = k; cut = b }
+
+unfoldable pub endAt : List ℕ → ℕ → Bool → Answer
+endAt w k b =
     arrive (ltb kindAtLeast (wordIn w kindAt) || (not (eqb (wordIn w kindAt) 0) && leb fieldCount (wordIn w fieldAt)))
     (eqb (wordIn w kindAt) 0)
-    (Done (foundIn w k))
-    (Stopped (foundIn w k))
+    (Done (foundIn w k b))
+    (Stopped (foundIn w k b))

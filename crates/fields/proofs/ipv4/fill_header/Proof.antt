@@ -2,7 +2,7 @@
 -- Assumes nothing.
 use borrow.Author.Needs.{needs}
 use Rattle.fields.specs.Ipv4.{internetPuts, totalLength, protocol}
-use Rattle.fields.proofs.Filling.{then}
+use Rattle.fields.specs.laws.Filling.{then}
 use Rattle.fields.proofs.ipv4.fill_header.Statement.{statement}
 use Rattle.fields.proofs.ipv4.fill_header.Tie as tie
 

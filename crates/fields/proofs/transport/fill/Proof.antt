@@ -1,7 +1,7 @@
 -- `fields::transport::fill` meets its contract: each protocol's own function has it, and no other protocol has these fields.
 -- Assumes nothing.
 use borrow.Author.Needs.{needs}
-use Rattle.fields.proofs.Filling.{unchanged}
+use Rattle.fields.specs.laws.Filling.{unchanged}
 use Rattle.fields.proofs.Transports.{other}
 use Rattle.fields.proofs.transport.fill.Statement.{statement}
 use Rattle.fields.proofs.transport.fill.Tie as tie

@@ -1,7 +1,7 @@
 -- `fields::transport::icmp` meets its contract: no byte, one byte or more put nothing, the type, or type and code.
 -- Assumes nothing.
 use borrow.Author.Needs.{needs}
-use Rattle.fields.proofs.Filling.{unchanged, then}
+use Rattle.fields.specs.laws.Filling.{unchanged, then}
 use Rattle.fields.proofs.Transports.{icmp-none, icmp-type, icmp-whole}
 use Rattle.fields.proofs.transport.icmp.Statement.{statement}
 use Rattle.fields.proofs.transport.icmp.Tie as tie

@@ -1,7 +1,7 @@
 -- `fields::transport::tcp` meets its contract: to what the ports' promise says, fourteen bytes add the flags.
 -- Assumes nothing.
 use borrow.Author.Needs.{needs}
-use Rattle.fields.proofs.Filling.{then}
+use Rattle.fields.specs.laws.Filling.{then}
 use Rattle.fields.proofs.Transports.{tcp-short, tcp-whole}
 use Rattle.fields.proofs.transport.tcp.Statement.{statement}
 use Rattle.fields.proofs.transport.tcp.Tie as tie

@@ -4,7 +4,7 @@ use borrow.Author.Needs.{needs}
 use native.Mathlib.Omega.{arith}
 use Prim.Native.Nat.{_<_}
 use lib.ListN.{length}
-use Rattle.fields.proofs.Filling.{unchanged, then}
+use Rattle.fields.specs.laws.Filling.{unchanged, then}
 use Rattle.fields.proofs.Transports.{udp-short, udp-whole}
 use Rattle.fields.proofs.transport.udp.Statement.{statement}
 use Rattle.fields.proofs.transport.udp.Tie as tie

@@ -1,13 +1,13 @@
--- `matcher::classify` meets its contract. Each test at the start is a law of the walk's start; after them a header that was read once
+-- `matcher::walk_frame` meets its contract. Each test at the start is a law of the walk's start; after them a header that was read once
 -- reads every field as the frame has it. Assumes nothing.
 use native.Mathlib.Nat.{pos-of-ne-zero}
 use mathlib.Core.Path.{refl, sym, _∙_}
 use borrow.Author.Needs.{needs}
 use borrow.Author.Tests.{lt-ltb, le-ltb}
 use Rattle.matcher.specs.laws.Walks.{walk-long, walk-none, walk-misfit, walk-fits}
-use Rattle.fields.specs.laws.Header.{read-once}
-use Rattle.matcher.proofs.classify.Statement.{statement}
-use Rattle.matcher.proofs.classify.Tie as tie
+use Rattle.fields.specs.laws.CutSet.{seen-once}
+use Rattle.matcher.proofs.walk_frame.Statement.{statement}
+use Rattle.matcher.proofs.walk_frame.Tie as tie
 
 returns : tie.Need-returns
 returns c = sym (walk-long _ _ _ _ _ (c .if1 .taken))
@@ -33,16 +33,18 @@ read-header-requires c κs = search needs
 
 walk-from-requires : tie.Need-walk-from-requires
 walk-from-requires c κs =
-    (pos-of-ne-zero (c .before .before .before .before .before .if2 .left), (c .before .before .before .before .if3 .left, c .before .before .before .if4 .left))
+    (pos-of-ne-zero (c .before .before .before .before .before .if2 .left), (c .before .before .before .before .if3 .left, (c .before .before .before .if4 .left, (_, c .before .read-header .ensures .set))))
 
 returns-5 : tie.Need-returns-5
 returns-5 c =
-    let once = read-once refl (c .before .before .read-header .ensures) in
-    let start = walk-fits _ _ _ _ _ (c .before .before .before .before .before .before .before .if1 .left) (c .before .before .before .before .before .before .if2 .left) (c .before .before .before .before .before .if3 .left) (c .before .before .before .before .if4 .left) in
+    let header = c .before .before in
+    let room = header .before .before in
+    let once = seen-once refl (header .read-header .ensures) refl in
+    let start = walk-fits _ _ _ _ _ (room .before .before .before .if1 .left) (room .before .before .if2 .left) (room .before .if3 .left) (room .if4 .left) in
     (rw once at (c .walk-from .ensures)) ∙ sym start
 
-pub classify-spec : {M : Type 1} → statement M
-classify-spec =
+pub walk-frame-spec : {M : Type 1} → statement M
+walk-frame-spec =
     tie.close
     (tie.spec
     returns
