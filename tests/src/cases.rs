@@ -35,3 +35,5 @@ fn emulated() -> bool {
 pub const RANDOM_LISTS: Cases = Cases { name: "random lists", direct: 54_000, emulated: 9_000 };
 pub const RANDOM_TEXTS: Cases = Cases { name: "random texts", direct: 600, emulated: 200 };
 pub const GATEWAY_RUNS: Cases = Cases { name: "runs of a gateway", direct: 120, emulated: 12 };
+pub const OTHER_CONTENTS: Cases =
+    Cases { name: "lists whose frames get other contents", direct: 400, emulated: 12 };

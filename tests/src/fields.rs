@@ -99,6 +99,14 @@ fn read_ip(ip: &[u8], readings: &mut Readings) {
     readings[7] = Some(number(ip, 16, 4));
 }
 
+/// How many of a frame's bytes, from the first on, may steer the box (document 02, P9): with IPv4
+/// fields all before 14 + H + 14, else 34, as far as the frame goes.
+pub fn steering(frame: &[u8]) -> usize {
+    let ipv4 = read(frame, 0)[1..=7].iter().all(Option::is_some);
+    let reach = if ipv4 { 14 + 4 * usize::from(frame[14] & 0x0F) + 14 } else { 34 };
+    reach.min(frame.len())
+}
+
 /// Whether the fields are those of a fragment that does not begin its datagram.
 pub fn later_fragment(readings: &Readings) -> bool {
     readings[3].is_some_and(|x| x & OFFSET != 0)

@@ -19,6 +19,8 @@ use Rattle.fields.specs.Bytes.{Bytes}
 use Rattle.fields.specs.Fields.{field}
 use Rattle.fields.specs.Cut.{SeenAs}
 use Rattle.fields.specs.Seen.{seen}
+use Rattle.fields.specs.Steering.{SteerAlike}
+use Rattle.fields.specs.laws.Agree.{seen-alike}
 use Rattle.fields.specs.laws.Cut.{seen-as}
 use Rattle.fields.specs.laws.Values.{value-in-width}
 use Rattle.sets.specs.Sets.{bit, member}
@@ -51,6 +53,7 @@ use Rattle.gateway.specs.laws.Events.{runs-add-up}
 use Rattle.builder.specs.Outcome.{refusalOf, numberOf, Left, scratchWords, outcome}
 use Rattle.labels.specs.Labels.{shownAt, metIn, Legal}
 use Rattle.demands.specs.laws.Builds.{build-full, build-fits}
+use Rattle.demands.specs.laws.Contents.{same-walk, same-scan, same-lamp, same-judged}
 use Rattle.demands.specs.laws.Gateway.{verdict-first, verdict-standing}
 use Rattle.demands.specs.laws.Lamps.{damage-refused}
 use Rattle.demands.specs.laws.Settled.{exact, all-done, all-matches, all-scanned, all-lamps, open-so, sure-so, out-so, sure-kept, out-kept, none-left, asked-few}
@@ -173,3 +176,21 @@ pub mark-kept :
     (f : List ℕ) (p : ℕ) (t : List ℕ) (m a a' : ℕ) → a ≤ a' → ((n : ℕ) → walk f p t m a' ≡ Refused n → ⊥) →
     found (walk f p t m a) .cut ≡ true → found (walk f p t m a') .cut ≡ true
 mark-kept = mark-lasts
+
+-- Change request P9: job contents do not steer the box. Two frames that steer alike, with one box port, get the same answer, refusals, marks and counts
+-- included, whatever the list, the table, its number of states and the allowance; and from equal tallies the same verdict and tallies.
+module _ (f g : List ℕ) (alike : SteerAlike f g) (p : ℕ) where
+  pub contents-field : (n : ℕ) → seen f p n ≡ seen g p n
+  contents-field = seen-alike f g alike p
+
+  pub contents-walk : (t : List ℕ) (m a : ℕ) → walk f p t m a ≡ walk g p t m a
+  contents-walk = same-walk f g alike p
+
+  pub contents-scan : (l : List ℕ) → scanned l f p ≡ scanned l g p
+  contents-scan = same-scan f g alike p
+
+  pub contents-lamp : (l t : List ℕ) (m : ℕ) → lampOf l f p t m ≡ lampOf l g p t m
+  contents-lamp = same-lamp f g alike p
+
+  pub contents-judged : (t : List ℕ) (m : ℕ) (vs : List ℕ) (d : ℕ) (ts : List ℕ) → judged f p t m vs d ts ≡ judged g p t m vs d ts
+  contents-judged = same-judged f g alike p

@@ -1,4 +1,5 @@
 pub mod Builds
+pub mod Contents
 pub mod Gateway
 pub mod Labelled
 pub mod Lamps

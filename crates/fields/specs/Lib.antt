@@ -7,6 +7,7 @@ pub mod Transport
 pub mod Fields
 pub mod Cut
 pub mod Seen
+pub mod Steering
 pub mod Header
 pub mod inner
 pub mod laws

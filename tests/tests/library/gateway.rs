@@ -155,7 +155,7 @@ fn page_run(coverage: &mut Coverage) {
 }
 
 /// Verdicts of which any two neighbours mostly differ.
-fn some_verdicts(random: &mut Random) -> [u32; MOST_FILTERS] {
+pub fn some_verdicts(random: &mut Random) -> [u32; MOST_FILTERS] {
     [0; MOST_FILTERS].map(|_| random.pick(&[PASS, DROP, DIVERT]))
 }
 
@@ -195,17 +195,22 @@ fn runs(coverage: &mut Coverage) {
 }
 
 /// A list with its table; a list that needs too many states is left out.
-fn built(random: &mut Random, case: usize) -> (Vec<Filter>, Vec<u32>, u32) {
+pub fn built(random: &mut Random, case: usize) -> (Vec<Filter>, Vec<u32>, u32) {
     loop {
-        let filters = list(random, style(case % 50, 50));
-        let Some(records) = records(&filters, 200) else { continue };
-        let slots = records.len();
-        let mut table = vec![0; slots * RECORD_WORDS];
-        let mut scratch = vec![0; slots * library().scratch_words()];
-        let built = library().build(&words(&filters), &mut table, &mut scratch);
-        assert_eq!((built.refusal, built.number as usize), (0, slots));
-        return (filters, table, built.number);
+        if let Some(built) = table_of(list(random, style(case % 50, 50)), 200) {
+            return built;
+        }
     }
+}
+
+/// A list with its table, if it needs no more than so many states.
+pub fn table_of(filters: Vec<Filter>, most: usize) -> Option<(Vec<Filter>, Vec<u32>, u32)> {
+    let slots = records(&filters, most)?.len();
+    let mut table = vec![0; slots * RECORD_WORDS];
+    let mut scratch = vec![0; slots * library().scratch_words()];
+    let built = library().build(&words(&filters), &mut table, &mut scratch);
+    assert_eq!((built.refusal, built.number as usize), (0, slots));
+    Some((filters, table, built.number))
 }
 
 /// A frame towards a list, now and then one that is too long.

@@ -2,6 +2,7 @@
 //! prints the list, the frame and both answers. At the end comes what the run has met: none of it
 //! may be zero.
 
+mod contents;
 mod cuts;
 mod damage;
 mod edges;
@@ -16,7 +17,7 @@ mod rooms;
 mod stored;
 mod support;
 
-use filterbox_tests::cases::{GATEWAY_RUNS, RANDOM_LISTS};
+use filterbox_tests::cases::{GATEWAY_RUNS, OTHER_CONTENTS, RANDOM_LISTS};
 use filterbox_tests::coverage::Coverage;
 use filterbox_tests::library::library;
 use filterbox_tests::runner::Runner;
@@ -26,6 +27,7 @@ fn main() {
     println!("the library is {}", library().way());
     RANDOM_LISTS.tell();
     GATEWAY_RUNS.tell();
+    OTHER_CONTENTS.tell();
     let mut coverage = Coverage::default();
     numbers::run(&mut runner, &mut coverage);
     groups::run(&mut runner, &mut coverage);
@@ -36,12 +38,13 @@ fn main() {
     lamp::run(&mut runner, &mut coverage);
     rooms::run(&mut runner, &mut coverage);
     gateway::run(&mut runner, &mut coverage);
+    let contents = contents::run(&mut runner);
     stored::run(&mut runner, &mut coverage);
     random_lists::run(&mut runner, &mut coverage);
     // Last, since a call that leaves its memory ends the run here.
     edges::run(&mut runner, &mut coverage);
     let (report, missing) = coverage.report();
-    println!("\nWhat the run has met\n{report}\n");
+    println!("\nWhat the run has met\n{report}\nother contents: {contents:?}\n");
     if runner.runs_all() {
         runner.check("coverage_has_no_zero", || assert!(missing.is_empty(), "{missing:?}"));
         runner.check("coverage_is_large_enough", || {

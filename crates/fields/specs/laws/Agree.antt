@@ -1,21 +1,23 @@
--- What a frame's fields depend on: its length and its headers. Two frames of one length that agree there have the same fields.
+-- What a frame's fields depend on: its length and the bytes that may steer the box (document 02, P9). Frames that agree there have
+-- each field alike: the same value, or none, or cut.
 use Prim.Native.Nat.{ℕ, _≤_, _<_, _+_}
 use native.Mathlib.Omega.{arith}
-use mathlib.Core.Path.{_≡_, refl, ap, sym, _∙_}
+use mathlib.Core.Path.{_≡_, ap₂, sym, _∙_}
 use mathlib.Core.Bool.{Bool, true, false}
 use mathlib.Core.List.{List}
-use lib.ListN.{length, take, length-take, length-drop}
-use lib.Seq.{getD-take, take-take}
+use borrow.Author.Tests.{leb-true, leb-false}
+use lib.Dec.{leb}
+use lib.ListN.{length, length-take, length-drop, List·getD-eq-default}
+use Rattle.residue.specs.laws.Choice.{by-test}
 use Rattle.fields.specs.Bytes.{byte, two, four}
-use Rattle.fields.specs.Ethernet.{ipStart, ethernet}
+use Rattle.fields.specs.Ethernet.{ethernet}
 use Rattle.fields.specs.Ipv4.{internet, version, headerLength, totalLength, protocol, internetPuts, transportStart, transportEnd, transport}
 use Rattle.fields.specs.Transport.{transportPuts}
-use Rattle.fields.specs.Fields.{puts, readings}
+use Rattle.fields.specs.Fields.{puts, readings, field}
+use Rattle.fields.specs.Seen.{could, mayBeType, mayBeInternet, mayBegin, mayCarry, chances, possible, seenOf, seen}
+use Rattle.fields.specs.Steering.{steering, SteerAlike}
 use Rattle.fields.specs.laws.Bytes.{part-byte}
 use Rattle.fields.specs.laws.Ipv4.{internet-lengths}
-
-take-bytes : (n : ℕ) (f g : List ℕ) → take n f ≡ take n g → (i : ℕ) → i < n → byte f i ≡ byte g i
-take-bytes n f g e i h = sym (getD-take n f i 0 h) ∙ ap (λ (l : List ℕ). byte l i) e ∙ getD-take n g i 0 h
 
 two-agree : (f g : List ℕ) (i : ℕ) → byte f i ≡ byte g i → byte f (i + 1) ≡ byte g (i + 1) → two f i ≡ two g i
 unfolding two
@@ -35,9 +37,34 @@ part-agrees q t u long at =
       at 1 (omega arith),
     )
 
-module _ (f g : List ℕ) (p : ℕ) (long : length f ≡ length g) (same : take 34 f ≡ take 34 g) where
+-- No fewer bytes may steer than the shortest IPv4 header takes; with IPv4 fields fourteen behind the header do.
+steering-least : (f : List ℕ) → 34 ≤ steering f
+unfolding steering
+steering-least f =
+    by-test (34 ≤ steering f) (internet f)
+    (λ (has : internet f ≡ true). rw has (omega (arith, internet-lengths f has .least)))
+    (λ (lacks : internet f ≡ false). rw lacks (omega arith))
+
+steering-part : (f : List ℕ) → internet f ≡ true → transportStart f + 14 ≤ steering f
+unfolding steering transportStart
+steering-part f has = rw has (omega arith)
+
+module _ (f g : List ℕ) (alike : SteerAlike f g) where
+  long : length f ≡ length g
+  long = alike .long
+
+  -- Behind the end of both there is 0.
+  steered : (i : ℕ) → i < steering f → byte f i ≡ byte g i
+  steered i h =
+      by-test (byte f i ≡ byte g i) (leb (length f) i)
+      (λ (e : leb (length f) i ≡ true).
+      let behind = leb-true (length f) i e in
+      let too : length g ≤ i = rw (sym long) behind in
+      List·getD-eq-default f 0 behind ∙ sym (List·getD-eq-default g 0 too))
+      (λ (e : leb (length f) i ≡ false). alike .agree i h (omega (arith, leb-false (length f) i e)))
+
   at : (i : ℕ) → i < 34 → byte f i ≡ byte g i
-  at = take-bytes 34 f g same
+  at i h = steered i (omega (arith, steering-least f))
 
   two-at : (i : ℕ) → i + 1 < 34 → two f i ≡ two g i
   two-at i h = two-agree f g i (at i (omega arith)) (at (i + 1) h)
@@ -88,26 +115,22 @@ module _ (f g : List ℕ) (p : ℕ) (long : length f ≡ length g) (same : take 
   unfolding transportEnd
   end-agrees = simp (total-agrees, start-agrees, two-at 20 (omega arith))
 
-  absent-agree : internet f ≡ false → puts f p ≡ puts g p
-  unfolding puts
-  absent-agree lacks =
-      let too = sym internet-agrees ∙ lacks in
-      simp (lacks, too, ethernet-agrees, two-at 12 (omega arith))
-
-  part-at : take (transportStart f + 14) f ≡ take (transportStart f + 14) g → (i : ℕ) → i < 14 → byte (transport f) i ≡ byte (transport g) i
-  unfolding transport
-  part-at deep i h =
-      let there = take-bytes (transportStart f + 14) f g deep (transportStart f + i) (omega arith) in
-      part-byte f (transportStart f) (transportEnd f) i ∙
-      rw (there, start-agrees, end-agrees) (sym (part-byte g (transportStart g) (transportEnd g) i))
-
   length-agrees : length (transport f) ≡ length (transport g)
   unfolding transport
   length-agrees = simp (length-take, length-drop, long, start-agrees, end-agrees)
 
-  present-agree : internet f ≡ true → take (transportStart f + 14) f ≡ take (transportStart f + 14) g → puts f p ≡ puts g p
+  part-at : internet f ≡ true → (i : ℕ) → i < 14 → byte (transport f) i ≡ byte (transport g) i
+  unfolding transport
+  part-at has i h =
+      let there = steered (transportStart f + i) (omega (arith, steering-part f has)) in
+      part-byte f (transportStart f) (transportEnd f) i ∙
+      rw (there, start-agrees, end-agrees) (sym (part-byte g (transportStart g) (transportEnd g) i))
+
+  puts-agree : (p : ℕ) → puts f p ≡ puts g p
   unfolding puts
-  present-agree has deep =
+  puts-agree p =
+      by-test (puts f p ≡ puts g p) (internet f)
+      (λ (has : internet f ≡ true).
       let too = sym internet-agrees ∙ has in
       simp (
         has,
@@ -116,28 +139,45 @@ module _ (f g : List ℕ) (p : ℕ) (long : length f ≡ length g) (same : take 
         two-at 12 (omega arith),
         internet-puts-agree,
         protocol-agrees,
-        part-agrees (protocol g) (transport f) (transport g) length-agrees (part-at deep),
-      )
+        part-agrees (protocol g) (transport f) (transport g) length-agrees (part-at has),
+      ))
+      (λ (lacks : internet f ≡ false).
+      let too = sym internet-agrees ∙ lacks in
+      simp (lacks, too, ethernet-agrees, two-at 12 (omega arith)))
 
-module _
-    (f g : List ℕ)
-    (p : ℕ)
-    (long : length f ≡ length g)
-    (headers : internet f ≡ true → take (ipStart + headerLength f + 14) f ≡ take (ipStart + headerLength f + 14) g)
-    (start : internet f ≡ false → take 34 f ≡ take 34 g)
-  where
-    by-internet : (b : Bool) → internet f ≡ b → puts f p ≡ puts g p
-    unfolding transportStart
-    by-internet false lacks = absent-agree f g p long (start lacks) lacks
-    by-internet true has =
-        let deep = headers has in
-        let reach = internet-lengths f has .least in
-        let within : 34 ≤ ipStart + headerLength f + 14 = omega arith in
-        let first : take 34 f ≡ take 34 g =
-        sym (take-take 34 (ipStart + headerLength f + 14) f within) ∙ ap (λ (l : List ℕ). take 34 l) deep ∙
-        take-take 34 (ipStart + headerLength f + 14) g within in
-        present-agree f g p long first has deep
+  field-agrees : (p n : ℕ) → field f p n ≡ field g p n
+  unfolding field readings
+  field-agrees p n = rw (puts-agree p)
 
-    pub readings-agree : readings f p ≡ readings g p
-    unfolding readings
-    readings-agree = rw (by-internet (internet f) refl)
+  -- What could be there in a longer frame.
+  could-agrees : (i : ℕ) → i < 34 → (p : ℕ → Bool) → could f i p ≡ could g i p
+  unfolding could
+  could-agrees i h p = rw (long, at i h)
+
+  type-may : mayBeType f ≡ mayBeType g
+  unfolding mayBeType
+  type-may = could-agrees 12 (omega arith) _
+
+  internet-may : mayBeInternet f ≡ mayBeInternet g
+  unfolding mayBeInternet
+  internet-may = rw (could-agrees 12 (omega arith), could-agrees 13 (omega arith), could-agrees 14 (omega arith))
+
+  begin-may : mayBegin f ≡ mayBegin g
+  unfolding mayBegin
+  begin-may = rw (could-agrees 20 (omega arith), could-agrees 21 (omega arith))
+
+  carry-may : (p : ℕ → Bool) → mayCarry f p ≡ mayCarry g p
+  unfolding mayCarry
+  carry-may p = rw (internet-may, begin-may, could-agrees 23 (omega arith) p)
+
+  chances-agree : chances f ≡ chances g
+  unfolding chances
+  chances-agree = simp (type-may, internet-may, carry-may)
+
+  possible-agrees : (n : ℕ) → possible f n ≡ possible g n
+  unfolding possible
+  possible-agrees n = rw chances-agree
+
+  pub seen-alike : (p n : ℕ) → seen f p n ≡ seen g p n
+  unfolding seen
+  seen-alike p n = ap₂ seenOf (possible-agrees n) (field-agrees p n)

@@ -57,7 +57,7 @@ returns c =
     let p3 = p4 .before .before .before in
     let p2 = p3 .before .before .before in
     let p1 = p2 .before .before .before in
-    rw (
+    simp (
       ← p1 .before .before .byte-at .ensures,
       ← p2 .before .before .two-at .ensures,
       ← p3 .before .before .two-at2 .ensures,
