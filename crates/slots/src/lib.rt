@@ -113,12 +113,12 @@ fn cut_all(src: &[u32], dst: &mut [u32], n: usize, field: u32, fact: Fact)
     }
 }
 
-// Held, and every filter that ranks above it is out.
-pub fn sure_set(w: &[u32], n: usize, ranks: &[Set]) -> Set
+// Held, and every filter that ranks above it is in the out set.
+pub fn sure_set(w: &[u32], n: usize, ranks: &[Set], out: Set) -> Set
     requires { ⌜ Ranked n (now ranks) (now w) ⌝ }
+    requires { ⌜ out ≡ outSetIn n (now w) ⌝ }
     ensures { λ r. ⌜ r ≡ sureSetIn n (now (ranks .entry)) (now (w .entry)) ⌝ }
 {
-    let out = out_set(w, n);
     let mut set: Set = 0;
     let mut i: usize = 0;
     while i < n {
