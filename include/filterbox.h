@@ -100,6 +100,7 @@ typedef struct FilterboxField {
  * scratch: at least filterbox_scratch_words() words for each slot of the table, whether or not the
  * list needs the slot.
  * All lengths are in words.
+ * stack: the calling thread needs P8-FIGURE bytes at the most, for the deepest list.
  *
  * Answers refusal 0 and the number of states, which filterbox_classify wants to know. Then the
  * records of the states stand at the beginning of the table, and the table words behind them are as
