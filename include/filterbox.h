@@ -31,6 +31,10 @@ extern "C" {
 #define FILTERBOX_MOST_FILTERS 64
 #define FILTERBOX_MOST_TESTS 8
 
+/* The stack in bytes that building takes at the most: the deepest list has a path of
+   FILTERBOX_MOST_FILTERS * FILTERBOX_MOST_TESTS questions. */
+#define FILTERBOX_BUILD_STACK 400000
+
 /* The header fields, numbered from 0. */
 #define FILTERBOX_FIELDS 14
 
@@ -100,7 +104,8 @@ typedef struct FilterboxField {
  * scratch: at least filterbox_scratch_words() words for each slot of the table, whether or not the
  * list needs the slot.
  * All lengths are in words.
- * stack: the calling thread needs P8-FIGURE bytes at the most, for the deepest list.
+ * The calling thread needs FILTERBOX_BUILD_STACK bytes of stack for the deepest list; no other call
+ * needs more than a twentieth of that.
  *
  * Answers refusal 0 and the number of states, which filterbox_classify wants to know. Then the
  * records of the states stand at the beginning of the table, and the table words behind them are as

@@ -4,7 +4,8 @@
 //!   build times, as four small tables;
 //! - `filterbox-bench lamp`: the lamp's table alone;
 //! - `filterbox-bench count CASE WHO N`: classifies N frames of a case (a, b, c, d) with one contender
-//!   (library, in-turn, sorted, walk) and nothing else, for counting instructions;
+//!   (library, in-turn, sorted, walk), or asks the lamp of them, and nothing else, for counting instructions;
+//! - `filterbox-bench build LIST`: builds one list once with the library, for the same;
 //! - `filterbox-bench far CASE CALL N`: the same over the pipe of the tests, where the library cannot
 //!   be linked: CALL is classify, or nothing, which does all but the call.
 //!
@@ -245,7 +246,7 @@ fn built_lists() -> Vec<(&'static str, Vec<u32>, usize)> {
     ]
 }
 
-/// Builds one list once with the library, as often as it is built it takes the same instructions.
+/// Builds one list with the library, once.
 fn count_build(name: &str) {
     let lists = built_lists();
     let (_, list, _) = lists.iter().find(|list| list.0.starts_with(name)).expect("a list");
@@ -291,6 +292,7 @@ fn count(case: &Case, who: &str, frames: usize) {
         let frame = black_box(&frame[..]);
         sum = sum.wrapping_add(match who {
             "library" => library::classify(frame, 0, &case.table, case.states, u32::MAX).sure,
+            "lamp" => library::lamp(&case.list, frame, 0, &case.table, case.states).asked.into(),
             "in-turn" => in_turn.scan_in_turn(frame, 0),
             "sorted" => sorted.scan_sorted(frame, 0),
             "walk" => plain::classify(frame, 0, &case.table, case.states, u32::MAX).sure,
@@ -313,6 +315,6 @@ fn main() {
         ["count", name, who, frames] => count(&case(name), who, frames.parse().expect("a number")),
         ["build", name] => count_build(name),
         ["far", name, call, frames] => far(&case(name), call, frames.parse().expect("a number")),
-        _ => panic!("usage: filterbox-bench [lamp | count CASE WHO FRAMES | far CASE CALL FRAMES]"),
+        _ => panic!("usage: filterbox-bench [lamp | count CASE WHO FRAMES | build LIST | far CASE CALL FRAMES]"),
     }
 }

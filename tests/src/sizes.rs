@@ -42,6 +42,9 @@ pub const MOST_SLOTS: usize = 4096;
 /// The most scratch words that a slot may take.
 pub const MOST_SCRATCH_WORDS: usize = 2048;
 
+/// The stack in bytes that building takes at the most, as the header says it.
+pub const BUILD_STACK: usize = 400_000;
+
 /// The set that stands at a place of a record.
 pub fn set_at(record: &[u32], at: usize) -> Set {
     Set::from(record[at]) + Set::from(record[at + 1]) * (1 << 32)

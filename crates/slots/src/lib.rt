@@ -90,12 +90,15 @@ fn close_by(w: &mut [u32], n: usize, ranks: &[Set], held: Set)
     }
 }
 
-// Each filter that ranks below a held one made out.
+// Each filter that ranks below a held one made out. Of most states no filter is held.
 pub fn close(w: &mut [u32], n: usize, ranks: &[Set])
     requires { ⌜ Ranked n (now ranks) (now w) ⌝ }
     ensures { λ _. ⌜ now (w .exit) ≡ closedWords n (now (ranks .entry)) (now (w .entry)) ⌝ }
 {
     let held = held_set(w, n);
+    if held == 0 {
+        return;
+    }
     close_by(w, n, ranks, held);
 }
 

@@ -1,6 +1,8 @@
 //! Document 01's "Numbers to try", and lists whose states can be counted by hand.
 
-use filterbox_tests::builder::{MOST_SCRATCH_WORDS, MOST_SLOTS, RECORD_WORDS};
+use std::thread;
+
+use filterbox_tests::builder::{Built, MOST_SCRATCH_WORDS, MOST_SLOTS, RECORD_WORDS};
 use filterbox_tests::coverage::Coverage;
 use filterbox_tests::examples::{
     behind_impossible, deepest, echo_in_one_group, empty_filters, ends_of_the_range, one_bit_tests,
@@ -11,7 +13,7 @@ use filterbox_tests::frames::{compose, echo_request, hand_made, Frame, Layout};
 use filterbox_tests::library::library;
 use filterbox_tests::rules::{read_list, words, Filter};
 use filterbox_tests::runner::Runner;
-use filterbox_tests::sizes::{set_at, OUT_AT, SURE_AT};
+use filterbox_tests::sizes::{set_at, BUILD_STACK, OUT_AT, SURE_AT};
 use filterbox_tests::walker::{Answer, DONE, STOPPED};
 
 use crate::support::{build, build_in_slots, check_frame, classify_noted};
@@ -33,6 +35,7 @@ pub fn run(runner: &mut Runner, coverage: &mut Coverage) {
     runner.check("4096_states_are_built_and_4097_refused", || most_states(coverage));
     runner.check("a_table_has_at_most_4096_slots", || beyond_the_slots(coverage));
     runner.check("the_deepest_list", || deepest_list(coverage));
+    runner.check("the_deepest_list_on_the_published_stack", published_stack);
     runner.check("ranges_at_the_ends_of_each_field", || ends_of_ranges(coverage));
 }
 
@@ -189,6 +192,17 @@ fn deepest_list(coverage: &mut Coverage) {
         check_frame(&filters, &frame, &built, coverage);
     }
     check_frame(&filters, &Frame { bytes: Vec::new(), port: 0 }, &built, coverage);
+}
+
+/// On a thread that has no more stack than the header asks. A build that takes more ends the run.
+fn published_stack() {
+    let build = || {
+        let mut table = vec![0; 640 * RECORD_WORDS];
+        let mut scratch = vec![0; 640 * library().scratch_words()];
+        library().build(&words(&deepest()), &mut table, &mut scratch)
+    };
+    let thread = thread::Builder::new().stack_size(BUILD_STACK).spawn(build).expect("a thread");
+    assert_eq!(thread.join().expect("no panic"), Built { refusal: 0, number: 640 });
 }
 
 fn ends_of_ranges(coverage: &mut Coverage) {
