@@ -1,4 +1,4 @@
-// Stack that filterbox_build takes at the deepest list, and filterbox_lamp over its table: one thread on painted memory, lists whose holds ways are 1 to 256 questions long.
+// Stack that filterbox_build takes at the deepest list, and filterbox_lamp over its table: one thread on painted memory, lists whose holds ways are 1 to 512 questions long.
 #include <pthread.h>
 #include <stdint.h>
 #include <stdio.h>
@@ -8,7 +8,9 @@
 
 enum { SLOTS = FILTERBOX_MOST_SLOTS, TABLE = FILTERBOX_RECORD_WORDS * SLOTS, STACK = 1 << 20 };
 /* The most scratch words that a slot may take. */
-enum { MOST_SCRATCH_WORDS = 1024 };
+enum { MOST_SCRATCH_WORDS = 2048 };
+/* The questions of the longest path, and how many lists lie between 8 of them and that. */
+enum { MOST_QUESTIONS = FILTERBOX_MOST_FILTERS * FILTERBOX_MOST_TESTS, STEPS = 8 };
 static _Alignas(65536) unsigned char stack[STACK];
 static uint32_t list[FILTERBOX_MOST_FILTERS * (3 + 4 * FILTERBOX_MOST_TESTS)], table[TABLE], scratch[MOST_SCRATCH_WORDS * SLOTS];
 static size_t words, scratch_words;
@@ -46,7 +48,7 @@ static const uint8_t frame[54] = {[12] = 8, [14] = 0x45, [17] = 40, [22] = 64, [
 static void *ask(void *x) {
     unsigned char here;
     entry = &here;
-    lamp = filterbox_lamp(list, words, frame, sizeof frame, 0, table, 9 * SLOTS, out.number);
+    lamp = filterbox_lamp(list, words, frame, sizeof frame, 0, table, TABLE, out.number);
     return x;
 }
 
@@ -67,7 +69,7 @@ int main(void) {
     make(1);
     measure(run);
     size_t first = 0, last = 0;
-    for (unsigned k = 0; k <= 256; k += k < 8 ? 1 : 31) {
+    for (unsigned k = 0; k <= MOST_QUESTIONS; k += k < 8 ? 1 : (MOST_QUESTIONS - 8) / STEPS) {
         make(k);
         size_t s = measure(run), l = measure(ask);
         printf("questions %3u: %6zu bytes, refusal %u, number %u; lamp: %zu bytes, refusal %u, lit %u, asked %u\n", k, s, out.refusal,
@@ -75,6 +77,6 @@ int main(void) {
         if (k == 8) first = s;
         last = s;
     }
-    printf("bytes a level: %.1f\n", (double)(last - first) / 248);
+    printf("bytes a level: %.1f\n", (double)(last - first) / (MOST_QUESTIONS - 8));
     return 0;
 }

@@ -47,6 +47,13 @@ static uint32_t tallies[FILTERBOX_TALLIES];
 static const char *const ended[] = {"refused", "done", "stopped"};
 static const char *const kind[] = {"none", "value", "cut"};
 
+/* A set is two words in an answer, and one number once they are put together. */
+static void show(FilterboxAnswer answer) {
+    printf("%s, sure %" PRIu64 ", out %" PRIu64 ", asked %" PRIu32 ", cut %" PRIu32 "\n",
+           ended[answer.ended], FILTERBOX_SET(answer.sure_low, answer.sure_high),
+           FILTERBOX_SET(answer.out_low, answer.out_high), answer.asked, answer.cut);
+}
+
 int main(void) {
     size_t scratch_words = (size_t)SLOTS * filterbox_scratch_words();
     uint32_t *scratch = calloc(scratch_words, sizeof *scratch);
@@ -61,15 +68,14 @@ int main(void) {
     }
     printf("states %" PRIu32 "\n", built.number);
     for (uint32_t allowance = 0; allowance <= 2; allowance++) {
-        FilterboxAnswer answer =
-            filterbox_classify(frame, sizeof frame, 0, table, TABLE_WORDS, built.number, allowance);
-        printf("allowance %" PRIu32 ": %s, sure %" PRIu32 ", out %" PRIu32 ", asked %" PRIu32
-               ", cut %" PRIu32 "\n",
-               allowance, ended[answer.ended], answer.sure, answer.out, answer.asked, answer.cut);
+        printf("allowance %" PRIu32 ": ", allowance);
+        show(filterbox_classify(frame, sizeof frame, 0, table, TABLE_WORDS, built.number,
+                                allowance));
     }
     FilterboxScanned scanned =
         filterbox_scan(list, sizeof list / sizeof *list, frame, sizeof frame, 0);
-    printf("scanned: refusal %" PRIu32 ", set %" PRIu32 "\n", scanned.refusal, scanned.set);
+    printf("scanned: refusal %" PRIu32 ", set %" PRIu64 "\n", scanned.refusal,
+           FILTERBOX_SET(scanned.set_low, scanned.set_high));
     FilterboxLamp lamp = filterbox_lamp(list, sizeof list / sizeof *list, frame, sizeof frame, 0,
                                         table, TABLE_WORDS, built.number);
     printf("lamp: refusal %" PRIu32 ", lit %" PRIu32 ", asked %" PRIu32 "\n", lamp.refusal, lamp.lit,
@@ -84,10 +90,8 @@ int main(void) {
            tallies[FILTERBOX_TALLIES - 1]);
     /* Only its first 24 bytes arrive, up to the protocol. The mark says that a question met a field
        that was cut off: the ICMP type, which the whole frame has. Ports it has none either way. */
-    FilterboxAnswer answer =
-        filterbox_classify(frame, 24, 0, table, TABLE_WORDS, built.number, 2);
-    printf("24 bytes: %s, sure %" PRIu32 ", out %" PRIu32 ", asked %" PRIu32 ", cut %" PRIu32 "\n",
-           ended[answer.ended], answer.sure, answer.out, answer.asked, answer.cut);
+    printf("24 bytes: ");
+    show(filterbox_classify(frame, 24, 0, table, TABLE_WORDS, built.number, 2));
     for (uint32_t number = 8; number <= 11; number += 3) {
         FilterboxField field = filterbox_field(frame, 24, 0, number);
         printf("field %" PRIu32 " of 24 bytes: %s\n", number, kind[field.kind]);

@@ -21,15 +21,19 @@ extern "C" {
 #endif
 
 /* The words of a record, one for each state: kind, field, mask, value, next state if the test holds,
-   if it fails, if the field is absent, then the sure set and the out set. */
-#define FILTERBOX_RECORD_WORDS 9
+   if it fails, if the field is absent, then the sure set and the out set, two words each. */
+#define FILTERBOX_RECORD_WORDS 11
 
 /* The most slots that a table has; words behind them are not used. */
 #define FILTERBOX_MOST_SLOTS 4096
 
 /* The most filters of a list, and the most tests of a filter. */
-#define FILTERBOX_MOST_FILTERS 32
+#define FILTERBOX_MOST_FILTERS 64
 #define FILTERBOX_MOST_TESTS 8
+
+/* The stack in bytes that building takes at the most: the deepest list has a path of
+   FILTERBOX_MOST_FILTERS * FILTERBOX_MOST_TESTS questions. */
+#define FILTERBOX_BUILD_STACK 400000
 
 /* The header fields, numbered from 0. */
 #define FILTERBOX_FIELDS 14
@@ -37,8 +41,12 @@ extern "C" {
 /* The longest frame in bytes that is not refused. */
 #define FILTERBOX_MOST_FRAME 1522
 
-/* A set of filters: filter i is bit i. */
-typedef uint32_t FilterboxSet;
+/* A set of filters: filter i is bit i. In a record and in an answer it is two words, the low half
+   first: filters 0 to 31 are the bits of the first, 32 to 63 those of the second. */
+typedef uint64_t FilterboxSet;
+
+/* The set that two words say. */
+#define FILTERBOX_SET(low, high) ((FilterboxSet)(high) << 32 | (FilterboxSet)(low))
 
 /* The words of a tally room: one for each filter, and the last for frames that match none. */
 #define FILTERBOX_TALLIES (FILTERBOX_MOST_FILTERS + 1)
@@ -62,12 +70,14 @@ enum {
 
 /* What classifying answers. */
 typedef struct FilterboxAnswer {
-    uint32_t ended;    /* FILTERBOX_REFUSED, FILTERBOX_DONE or FILTERBOX_STOPPED */
-    uint32_t refusal;  /* 0, or 12 or 13 where refused */
-    FilterboxSet sure; /* filters that are certainly in the match set */
-    FilterboxSet out;  /* filters that are certainly not in it */
-    uint32_t asked;    /* the number of questions asked */
-    uint32_t cut;      /* 1 where some question met a field that was cut off, else 0 */
+    uint32_t ended;     /* FILTERBOX_REFUSED, FILTERBOX_DONE or FILTERBOX_STOPPED */
+    uint32_t refusal;   /* 0, or 12 or 13 where refused */
+    uint32_t sure_low;  /* filters that are certainly in the match set: 0 to 31 */
+    uint32_t sure_high; /* and 32 to 63 */
+    uint32_t out_low;   /* filters that are certainly not in it: 0 to 31 */
+    uint32_t out_high;  /* and 32 to 63 */
+    uint32_t asked;     /* the number of questions asked */
+    uint32_t cut;       /* 1 where some question met a field that was cut off, else 0 */
 } FilterboxAnswer;
 
 /* Whether a field is there. */
@@ -94,6 +104,8 @@ typedef struct FilterboxField {
  * scratch: at least filterbox_scratch_words() words for each slot of the table, whether or not the
  * list needs the slot.
  * All lengths are in words.
+ * The calling thread needs FILTERBOX_BUILD_STACK bytes of stack for the deepest list; no other call
+ * needs more than a twentieth of that.
  *
  * Answers refusal 0 and the number of states, which filterbox_classify wants to know. Then the
  * records of the states stand at the beginning of the table, and the table words behind them are as
@@ -141,10 +153,11 @@ FilterboxAnswer filterbox_classify(const uint8_t *frame, size_t frame_len, uint8
 
 /* What scanning answers. */
 typedef struct FilterboxScanned {
-    uint32_t refusal; /* 0, or 1 to 9 or 12 where refused */
-    uint32_t filter;  /* the filter's number for refusals 1 to 9 (FILTERBOX_MOST_FILTERS for 1),
-                         else 0 */
-    FilterboxSet set; /* the match set; empty where refused */
+    uint32_t refusal;  /* 0, or 1 to 9 or 12 where refused */
+    uint32_t filter;   /* the filter's number for refusals 1 to 9 (FILTERBOX_MOST_FILTERS for 1),
+                          else 0 */
+    uint32_t set_low;  /* the match set, filters 0 to 31; empty where refused */
+    uint32_t set_high; /* and 32 to 63 */
 } FilterboxScanned;
 
 /*
@@ -160,7 +173,8 @@ FilterboxScanned filterbox_scan(const uint32_t *list, size_t list_len, const uin
 /* What the lamp answers. */
 typedef struct FilterboxLamp {
     uint32_t refusal; /* 0, or 1 to 9, 12 or 13 where refused */
-    uint32_t filter;  /* the filter's number for refusals 1 to 9 (32 for 1), else 0 */
+    uint32_t filter;  /* the filter's number for refusals 1 to 9 (FILTERBOX_MOST_FILTERS for 1),
+                         else 0 */
     uint32_t lit;     /* 1 where some filter matches, 0 where none does or where refused */
     uint32_t asked;   /* the number of questions asked; 0 where refused */
 } FilterboxLamp;

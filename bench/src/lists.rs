@@ -55,18 +55,18 @@ const TCP: u8 = 6;
 const UDP: u8 = 17;
 const ICMP: u8 = 1;
 
-/// (a) 32 filters in 32 groups that test 32 destination ports by equality.
-pub fn ports() -> Vec<u32> {
-    (0..32).flat_map(|i| [i, 0, 1, 1, 9, 0xFFFF, port(i)]).collect()
+/// (a) and (d) So many filters in as many groups that test as many destination ports by equality.
+pub fn ports(count: u32) -> Vec<u32> {
+    (0..count).flat_map(|i| [i, 0, 1, 1, 9, 0xFFFF, port(i)]).collect()
 }
 
 fn port(i: u32) -> u32 {
     1000 + 37 * i
 }
 
-/// Frames that hit the ports evenly.
-pub fn port_packet(random: &mut Random) -> Packet {
-    let port = port(random.below(32) as u32) as u16;
+/// Frames that hit so many ports evenly.
+pub fn port_packet<const COUNT: u64>(random: &mut Random) -> Packet {
+    let port = port(random.below(COUNT) as u32) as u16;
     Packet { ports: (40_000, port), ..any_packet(random) }
 }
 

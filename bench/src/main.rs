@@ -1,10 +1,11 @@
 //! Measures the library beside ordinary Rust code that does the same, as ratios in one run.
 //!
-//! - `filterbox-bench`: nanoseconds a frame for three lists, walked, scanned and asked by the lamp, and
+//! - `filterbox-bench`: nanoseconds a frame for four lists, walked, scanned and asked by the lamp, and
 //!   build times, as four small tables;
 //! - `filterbox-bench lamp`: the lamp's table alone;
-//! - `filterbox-bench count CASE WHO N`: classifies N frames of a case (a, b, c) with one contender
-//!   (library, in-turn, sorted, walk) and nothing else, for counting instructions;
+//! - `filterbox-bench count CASE WHO N`: classifies N frames of a case (a, b, c, d) with one contender
+//!   (library, in-turn, sorted, walk), or asks the lamp of them, and nothing else, for counting instructions;
+//! - `filterbox-bench build LIST`: builds one list once with the library, for the same;
 //! - `filterbox-bench far CASE CALL N`: the same over the pipe of the tests, where the library cannot
 //!   be linked: CALL is classify, or nothing, which does all but the call.
 //!
@@ -24,7 +25,7 @@ use std::hint::black_box;
 
 use filterbox_sys as library;
 use lists::{Packet, Random, FRAME};
-use plain::{AsSlices, Built, FromTheBack, FromTheFront, RECORD};
+use plain::{AsSlices, Built, FromTheBack, FromTheFront, Set, RECORD};
 use scanner::{InTurn, Sorted};
 
 const FRAMES: usize = 16_384;
@@ -54,16 +55,17 @@ impl Case {
     }
 
     /// The sure sets of all frames, to see that all contenders do the same.
-    fn sets(&self, ask: impl Fn(&[u8]) -> u32) -> Vec<u32> {
+    fn sets(&self, ask: impl Fn(&[u8]) -> Set) -> Vec<Set> {
         self.frames.iter().map(|frame| ask(frame)).collect()
     }
 }
 
 fn cases() -> Vec<Case> {
     vec![
-        Case::new("a: 32 ports, 32 groups", lists::ports(), lists::port_packet),
+        Case::new("a: 32 ports, 32 groups", lists::ports(32), lists::port_packet::<32>),
         Case::new("b: firewall, one group", lists::firewall(), lists::firewall_packet),
         Case::new("c: echo example", lists::ECHO.to_vec(), lists::echo_packet),
+        Case::new("d: 64 ports, 64 groups", lists::ports(64), lists::port_packet::<64>),
     ]
 }
 
@@ -73,11 +75,11 @@ fn median(numbers: &mut [f64]) -> f64 {
 }
 
 /// Nanoseconds that `ask` takes for a frame, over all frames once.
-fn time(case: &Case, mut ask: impl FnMut(&[u8]) -> u32) -> f64 {
+fn time<T: Into<u64>>(case: &Case, mut ask: impl FnMut(&[u8]) -> T) -> f64 {
     let began = clock::now();
-    let mut sum = 0u32;
+    let mut sum = 0u64;
     for frame in &case.frames {
-        sum = sum.wrapping_add(ask(black_box(frame)));
+        sum = sum.wrapping_add(ask(black_box(frame)).into());
     }
     black_box(sum);
     (clock::now() - began) / case.frames.len() as f64
@@ -205,13 +207,7 @@ fn build_table() {
         "plain, before P3",
         "ratio"
     );
-    let lists = [
-        ("6 one-bit tests", lists::one_bit_tests(6), 101),
-        ("b: firewall, one group", lists::firewall(), 31),
-        ("9 one-bit tests", lists::one_bit_tests(9), 31),
-        ("11 one-bit tests", lists::one_bit_tests(11), 7),
-    ];
-    for (name, list, rounds) in lists {
+    for (name, list, rounds) in built_lists() {
         let states = states(&list);
         // Scratch as the call before left it, zero in the slots; the table with its old records.
         let mut table = vec![1; states * RECORD];
@@ -237,6 +233,28 @@ fn build_table() {
         }
         println!();
     }
+}
+
+/// The lists that are built, and how often.
+fn built_lists() -> Vec<(&'static str, Vec<u32>, usize)> {
+    vec![
+        ("6 one-bit tests", lists::one_bit_tests(6), 101),
+        ("b: firewall, one group", lists::firewall(), 31),
+        ("9 one-bit tests", lists::one_bit_tests(9), 31),
+        ("11 one-bit tests", lists::one_bit_tests(11), 7),
+        ("d: 64 ports, 64 groups", lists::ports(64), 31),
+    ]
+}
+
+/// Builds one list with the library, once.
+fn count_build(name: &str) {
+    let lists = built_lists();
+    let (_, list, _) = lists.iter().find(|list| list.0.starts_with(name)).expect("a list");
+    let states = states(list);
+    let mut table = vec![1; states * RECORD];
+    let mut scratch = vec![1; states * library::scratch_words()];
+    assert_eq!(library::build(list, &mut table, &mut scratch).number as usize, states);
+    println!("{states} states");
 }
 
 fn states(list: &[u32]) -> usize {
@@ -269,11 +287,12 @@ fn far(case: &Case, call: &str, frames: usize) {
 /// Classifies so many frames with one contender only.
 fn count(case: &Case, who: &str, frames: usize) {
     let (in_turn, sorted) = (InTurn::new(&case.list), Sorted::new(&case.list));
-    let mut sum = 0u32;
+    let mut sum: Set = 0;
     for frame in case.frames.iter().cycle().take(frames) {
         let frame = black_box(&frame[..]);
         sum = sum.wrapping_add(match who {
             "library" => library::classify(frame, 0, &case.table, case.states, u32::MAX).sure,
+            "lamp" => library::lamp(&case.list, frame, 0, &case.table, case.states).asked.into(),
             "in-turn" => in_turn.scan_in_turn(frame, 0),
             "sorted" => sorted.scan_sorted(frame, 0),
             "walk" => plain::classify(frame, 0, &case.table, case.states, u32::MAX).sure,
@@ -294,7 +313,8 @@ fn main() {
         }
         ["lamp"] => lamp_table(&cases()),
         ["count", name, who, frames] => count(&case(name), who, frames.parse().expect("a number")),
+        ["build", name] => count_build(name),
         ["far", name, call, frames] => far(&case(name), call, frames.parse().expect("a number")),
-        _ => panic!("usage: filterbox-bench [lamp | count CASE WHO FRAMES | far CASE CALL FRAMES]"),
+        _ => panic!("usage: filterbox-bench [lamp | count CASE WHO FRAMES | build LIST | far CASE CALL FRAMES]"),
     }
 }

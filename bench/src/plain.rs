@@ -4,27 +4,28 @@
 //!
 //! Bounds are tested as Rust tests them. Nothing is allocated.
 
-pub use filterbox_sys::{Answer, Built, Lamp};
+pub use filterbox_sys::{Answer, Built, Lamp, Set};
 
 // Document 01's numbers, named here for the bench and the stand-in.
 pub const MOST_SLOTS: usize = 4096;
-pub const MOST_FILTERS: usize = 32;
+pub const MOST_FILTERS: usize = 64;
 pub const MOST_FRAME: usize = 1522;
-const MOST_TESTS: usize = 8;
+pub const MOST_TESTS: usize = 8;
 /// The greatest group and the greatest level.
 const MOST_GROUP: u32 = 255;
 /// Group, level, number of tests.
 const HEAD: usize = 3;
 /// Kind, field, mask, value.
 pub const TEST: usize = 4;
-/// The places of a record's words behind those of its question: three next states, two sets.
+/// The places of a record's words behind those of its question: three next states, two sets of two
+/// words, the low half first.
 const HOLDS_AT: usize = TEST;
 const FAILS_AT: usize = 5;
 const ABSENT_AT: usize = 6;
 const SURE_AT: usize = 7;
-const OUT_AT: usize = 8;
+const OUT_AT: usize = 9;
 /// The words of a record.
-pub const RECORD: usize = OUT_AT + 1;
+pub const RECORD: usize = OUT_AT + 2;
 /// The words of a filter in a slot: its remaining tests first, zeros behind.
 const FILTER: usize = MOST_TESTS * TEST;
 /// The words of a slot.
@@ -133,12 +134,25 @@ fn by_words(a: &[u32], b: &[u32]) -> bool {
     eights.remainder() == others.remainder()
 }
 
+/// The set that a record has at a place.
+fn set_at(record: &[u32], at: usize) -> Set {
+    Set::from(record[at + 1]) << 32 | Set::from(record[at])
+}
+
+fn put_set(record: &mut [u32], at: usize, set: Set) {
+    record[at] = set as u32;
+    record[at + 1] = (set >> 32) as u32;
+}
+
 /// The first record from a number on with the question and the sets of a fresh one. A call of its
 /// own, or its loop would have to share the registers of all that is inlined around it.
 #[inline(never)]
 fn agreeing(records: &[u32], from: usize, fresh: &[u32; RECORD]) -> Option<usize> {
+    let (out, sure) = (set_at(fresh, OUT_AT), set_at(fresh, SURE_AT));
     let agrees = |record: &[u32]| {
-        record[OUT_AT] == fresh[OUT_AT] && record[SURE_AT] == fresh[SURE_AT] && record[..TEST] == fresh[..TEST]
+        set_at(record, OUT_AT) == out
+            && set_at(record, SURE_AT) == sure
+            && record[..TEST] == fresh[..TEST]
     };
     Some(from + records[from * RECORD..].chunks_exact(RECORD).position(agrees)?)
 }
@@ -292,7 +306,7 @@ struct Builder<'a> {
     used: usize,
     filters: usize,
     /// The filters that rank below each filter.
-    below: [u32; MOST_FILTERS],
+    below: [Set; MOST_FILTERS],
     /// The state that a way leads to, before it is known to be new.
     candidate: [u32; SLOT],
 }
@@ -331,7 +345,7 @@ pub fn build<C: Compare>(list: &[u32], table: &mut [u32], scratch: &mut [u32]) -
     Built { refusal: 0, number: used as u32 }
 }
 
-fn ranks(list: &[u32], filters: usize) -> [u32; MOST_FILTERS] {
+fn ranks(list: &[u32], filters: usize) -> [Set; MOST_FILTERS] {
     let mut heads = [(0, 0); MOST_FILTERS];
     let mut at = 0;
     for head in heads.iter_mut().take(filters) {
@@ -439,8 +453,8 @@ impl Builder<'_> {
         if let Some(test) = Self::question(state) {
             record[..TEST].copy_from_slice(&test.words());
         }
-        record[SURE_AT] = sure;
-        record[OUT_AT] = out;
+        put_set(&mut record, SURE_AT, sure);
+        put_set(&mut record, OUT_AT, out);
         record
     }
 
@@ -625,7 +639,8 @@ pub fn classify(frame: &[u8], port: u8, table: &[u32], states: u32, allowance: u
         if test.kind == 0 || asked == allowance {
             let ended = if test.kind == 0 { 1 } else { 2 };
             let cut = u32::from(absent != 0 && absent & possible(frame) != 0);
-            return Answer { ended, refusal: 0, sure: record[SURE_AT], out: record[OUT_AT], asked, cut };
+            let (sure, out) = (set_at(record, SURE_AT), set_at(record, OUT_AT));
+            return Answer { ended, refusal: 0, sure, out, asked, cut };
         }
         let field = test.field as usize;
         let next = if header.present >> field & 1 == 0 {

@@ -1,7 +1,7 @@
 //! Ordinary optimised scanners: the header is read once, then each filter is asked in turn. What the
 //! walk through a table is held against.
 
-use crate::plain::{read_header, Header, AT_MOST, DIFFERS, EQUAL, TEST};
+use crate::plain::{read_header, Header, Set, AT_MOST, DIFFERS, EQUAL, TEST};
 
 #[derive(Clone, Copy)]
 enum Kind {
@@ -66,7 +66,7 @@ fn filters(list: &[u32]) -> Vec<Filter> {
 }
 
 /// For each filter the set of those that rank above it.
-fn ranks(filters: &[Filter]) -> Vec<u32> {
+fn ranks(filters: &[Filter]) -> Vec<Set> {
     let above = |a: usize, b: usize| {
         let (x, y) = (&filters[a], &filters[b]);
         // In group 0 each filter is on its own.
@@ -81,7 +81,7 @@ fn ranks(filters: &[Filter]) -> Vec<u32> {
 /// Asks every filter, then takes those above which none holds.
 pub struct InTurn {
     filters: Vec<Filter>,
-    above: Vec<u32>,
+    above: Vec<Set>,
 }
 
 impl InTurn {
@@ -92,7 +92,7 @@ impl InTurn {
     }
 
     #[inline(never)]
-    pub fn scan_in_turn(&self, frame: &[u8], port: u8) -> u32 {
+    pub fn scan_in_turn(&self, frame: &[u8], port: u8) -> Set {
         let header = read_header(frame, port);
         let mut holding = 0;
         for (i, filter) in self.filters.iter().enumerate() {
@@ -101,7 +101,7 @@ impl InTurn {
             }
         }
         let mut matches = 0;
-        let mut rest: u32 = holding;
+        let mut rest: Set = holding;
         while rest != 0 {
             let i = rest.trailing_zeros();
             if self.above[i as usize] & holding == 0 {
@@ -121,8 +121,8 @@ pub struct Sorted {
 }
 
 struct Entry {
-    bit: u32,
-    above: u32,
+    bit: Set,
+    above: Set,
     end: u32,
 }
 
@@ -142,7 +142,7 @@ impl Sorted {
     }
 
     #[inline(never)]
-    pub fn scan_sorted(&self, frame: &[u8], port: u8) -> u32 {
+    pub fn scan_sorted(&self, frame: &[u8], port: u8) -> Set {
         let header = read_header(frame, port);
         let mut matches = 0;
         let mut start = 0;

@@ -195,10 +195,12 @@ static void call(void) {
                 room[0], head.bytes[0], (uint8_t)n[0], words(1), length(1), n[1], n[2]);
         answer[0] = found.ended;
         answer[1] = found.refusal;
-        answer[2] = found.sure;
-        answer[3] = found.out;
-        answer[4] = found.asked;
-        answer[5] = found.cut;
+        answer[2] = found.sure_low;
+        answer[3] = found.sure_high;
+        answer[4] = found.out_low;
+        answer[5] = found.out_high;
+        answer[6] = found.asked;
+        answer[7] = found.cut;
         break;
     }
     case SCAN: {
@@ -206,7 +208,8 @@ static void call(void) {
             filterbox_scan(words(0), length(0), room[1], head.bytes[1], (uint8_t)n[0]);
         answer[0] = scanned.refusal;
         answer[1] = scanned.filter;
-        answer[2] = scanned.set;
+        answer[2] = scanned.set_low;
+        answer[3] = scanned.set_high;
         break;
     }
     case FIELD: {

@@ -12,9 +12,19 @@ pub use crate::sizes::{MOST_SCRATCH_WORDS, MOST_SLOTS, RECORD_WORDS};
 use crate::fields::full;
 use crate::residue::{fact, residue, Fact, Left, OUTCOMES};
 use crate::rules::{above, read_list, Filter, Test};
-use crate::sizes::{Set, HOLDS_AT, OUT_AT, SURE_AT, TEST_WORDS};
+use crate::sizes::{put_set, Set, HOLDS_AT, OUT_AT, SURE_AT, TEST_WORDS};
 
 pub type Record = [u32; RECORD_WORDS];
+
+/// A record of these words and sets.
+pub fn record(question: [u32; TEST_WORDS], next: [u32; 3], sure: Set, out: Set) -> Record {
+    let mut record = [0; RECORD_WORDS];
+    record[..HOLDS_AT].copy_from_slice(&question);
+    record[HOLDS_AT..SURE_AT].copy_from_slice(&next);
+    put_set(&mut record, SURE_AT, sure);
+    put_set(&mut record, OUT_AT, out);
+    record
+}
 
 /// A filter's remaining tests, or none where it is out.
 type Remaining = Option<Vec<Test>>;
@@ -94,10 +104,8 @@ impl Building<'_> {
         if number == self.slots {
             return None;
         }
-        let mut record = [0; RECORD_WORDS];
-        record[SURE_AT] = sure_set(self.filters, &state);
-        record[OUT_AT] = out_set(&state);
-        self.records.push(record);
+        let (sure, out) = (sure_set(self.filters, &state), out_set(&state));
+        self.records.push(record([0; TEST_WORDS], [0; 3], sure, out));
         self.numbers.insert(state.clone(), number as u32);
         if let Some(question) = (self.pick)(&state) {
             self.records[number][..TEST_WORDS].copy_from_slice(&question.words());

@@ -10,7 +10,7 @@ use crate::lamp::Lamp;
 use crate::residue::{Outcome, OUTCOMES};
 use crate::rules::{above, Filter, Test, ON_ITS_OWN};
 use crate::scanner::filter_holds;
-use crate::sizes::{SURE_AT, TEST_WORDS};
+use crate::sizes::{Set, SURE_AT, TEST_WORDS};
 use crate::walker::Answer;
 
 /// The refusal numbers of the library's calls: building, scanning, classifying, judging.
@@ -66,7 +66,7 @@ impl Coverage {
     }
 
     /// Counts the filters that hold of a frame whose match set is this.
-    pub fn holding(&mut self, filters: &[Filter], readings: &Readings, matches: u32) {
+    pub fn holding(&mut self, filters: &[Filter], readings: &Readings, matches: Set) {
         let holding = |i: &usize| filter_holds(&filters[*i], readings);
         let all: Vec<usize> = (0..filters.len()).filter(holding).collect();
         self.holding[0] += all.iter().filter(|&&i| matches >> i & 1 == 0).count() as u64;
@@ -111,7 +111,7 @@ impl Coverage {
     }
 
     /// A lamp that was not refused for its list or its frame, and the sure set where it ended.
-    pub fn lamp(&mut self, lamp: &Lamp, sure: u32) {
+    pub fn lamp(&mut self, lamp: &Lamp, sure: Set) {
         match (lamp.refusal, lamp.lit) {
             (0, 0) => self.lamps[1] += 1,
             (0, _) => {

@@ -7,18 +7,18 @@ use crate::rules::{Filter, Test, AT_LEAST, AT_MOST, DIFFERS, EQUAL, MOST_FILTERS
 pub const ECHO: [u32; 25] =
     [1, 0, 1, 1, 11, 255, 8, 2, 0, 2, 1, 11, 255, 0, 1, 4, 255, 1, 3, 0, 1, 1, 4, 255, 1];
 
-/// The records that document 01 prints for it.
+/// The records that document 01 prints for it, with the two words more of document 02, P8.
 pub const ECHO_RECORDS: [Record; 10] = [
-    [1, 11, 255, 8, 1, 4, 8, 0, 0],
-    [1, 4, 255, 1, 2, 3, 3, 1, 2],
-    [0, 0, 0, 0, 0, 0, 0, 5, 2],
-    [0, 0, 0, 0, 0, 0, 0, 1, 6],
-    [1, 11, 255, 0, 5, 8, 8, 0, 1],
-    [1, 4, 255, 1, 6, 7, 7, 0, 1],
-    [0, 0, 0, 0, 0, 0, 0, 6, 1],
-    [0, 0, 0, 0, 0, 0, 0, 0, 7],
-    [1, 4, 255, 1, 9, 7, 7, 0, 3],
-    [0, 0, 0, 0, 0, 0, 0, 4, 3],
+    [1, 11, 255, 8, 1, 4, 8, 0, 0, 0, 0],
+    [1, 4, 255, 1, 2, 3, 3, 1, 0, 2, 0],
+    [0, 0, 0, 0, 0, 0, 0, 5, 0, 2, 0],
+    [0, 0, 0, 0, 0, 0, 0, 1, 0, 6, 0],
+    [1, 11, 255, 0, 5, 8, 8, 0, 0, 1, 0],
+    [1, 4, 255, 1, 6, 7, 7, 0, 0, 1, 0],
+    [0, 0, 0, 0, 0, 0, 0, 6, 0, 1, 0],
+    [0, 0, 0, 0, 0, 0, 0, 0, 0, 7, 0],
+    [1, 4, 255, 1, 9, 7, 7, 0, 0, 3, 0],
+    [0, 0, 0, 0, 0, 0, 0, 4, 0, 3, 0],
 ];
 
 /// The decided reading of "not by their place in the filter": 15 states, 16 if places counted.
@@ -53,27 +53,26 @@ pub fn empty_filters(count: usize) -> Vec<u32> {
     (0..count as u32).flat_map(|group| [group, 0, 0]).collect()
 }
 
-/// One-bit tests on the source address, each in a group of its own: the states are a full binary
-/// tree, 2^(n+1) - 1 of them. Where the field is absent, every filter still asked about is out,
-/// as where all of its bits are 0.
+/// One-bit tests on the source address, from the 33rd on on the destination address, each in a group
+/// of its own: the states are a full binary tree, 2^(n+1) - 1 of them. Where the field is absent,
+/// every filter still asked about is out, as where all of its bits are 0.
 pub fn one_bit_tests(count: usize) -> Vec<Filter> {
-    (0..count)
-        .map(|i| Filter { group: i as u32, level: 0, tests: vec![test(EQUAL, 6, 1 << i, 1 << i)] })
-        .collect()
+    let one_bit = |i: u32| test(EQUAL, 6 + i / 32, 1 << (i % 32), 1 << (i % 32));
+    (0..count as u32).map(|i| Filter { group: i, level: 0, tests: vec![one_bit(i)] }).collect()
 }
 
 /// Before a list, filters that can never hold: each adds one state. Its first question puts it out
 /// however it ends, and where the question holds, all others of them too.
 pub fn behind_impossible(count: usize, list: Vec<Filter>) -> Vec<Filter> {
     let impossible = (0..count as u32).map(|i| Filter {
-        group: 200 + i,
+        group: 100 + i,
         level: 0,
         tests: vec![test(EQUAL, 13, 255, 2 * i), test(EQUAL, 13, 255, 2 * i + 1)],
     });
     impossible.chain(list).collect()
 }
 
-/// 32 filters of 8 tests with a path that asks all 256 of them. 320 states: one for each question,
+/// 64 filters of 8 tests with a path that asks all 512 of them. 640 states: one for each question,
 /// one with all held, one for each filter that alone is out, and one for each but the last filter
 /// from which on all are out.
 pub fn deepest() -> Vec<Filter> {

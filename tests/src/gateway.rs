@@ -1,4 +1,4 @@
-//! The gateway (document 02, P5): a frame's verdict, the tallies afterwards, and the refusals.
+//! The gateway (document 02, P5 and P8): a frame's verdict, the tallies afterwards, and the refusals.
 //!
 //! `judge` goes by a table's words, whoever wrote them; `judge_by_list` by what the list means.
 
@@ -16,7 +16,7 @@ pub const DROP: u32 = 1;
 pub const DIVERT: u32 = 2;
 
 /// The most questions of a walk.
-pub const ALLOWANCE: u32 = 256;
+pub const ALLOWANCE: u32 = 512;
 
 /// One tally for each filter, and one for frames that match none.
 pub const TALLIES: usize = MOST_FILTERS + 1;

@@ -79,8 +79,9 @@ impl Library {
         if self.piped {
             let numbers = [u32::from(port), states, allowance];
             let rooms = &mut [Room::Bytes(frame), Room::Shown(table)];
-            let [ended, refusal, sure, out, asked, cut, ..] =
+            let [ended, refusal, sure_low, sure_high, out_low, out_high, asked, cut, ..] =
                 self.call(pipe::CLASSIFY, &numbers, rooms);
+            let (sure, out) = (linked::set(sure_low, sure_high), linked::set(out_low, out_high));
             return Answer { ended, refusal, sure, out, asked, cut };
         }
         shown(self.place, frame, |frame| {
@@ -94,8 +95,8 @@ impl Library {
     pub fn scan(self, list: &[u32], frame: &[u8], port: u8) -> Scanned {
         if self.piped {
             let rooms = &mut [Room::Shown(list), Room::Bytes(frame)];
-            let [refusal, filter, set, ..] = self.call(pipe::SCAN, &[u32::from(port)], rooms);
-            return Scanned { refusal, filter, set };
+            let [refusal, filter, low, high, ..] = self.call(pipe::SCAN, &[u32::from(port)], rooms);
+            return Scanned { refusal, filter, set: linked::set(low, high) };
         }
         shown(self.place, list, |list| {
             shown(self.place, frame, |frame| linked::scan(list, frame, port))

@@ -19,7 +19,7 @@ pub enum Style {
     FewFields,
     /// Rules as a technician writes them: protocols, prefixes, ports, flags.
     Network,
-    /// Up to 32 filters of one or two tests.
+    /// Up to 64 filters of one or two tests.
     Crowd,
     /// Any fields, masks and values.
     Wild,
@@ -298,8 +298,8 @@ const EDGES: [u32; 22] = [
     9,
     13,
     14,
-    32,
-    33,
+    64,
+    65,
     254,
     255,
     256,
@@ -335,7 +335,7 @@ pub fn faulty(random: &mut Random, style: Style) -> Vec<u32> {
     list
 }
 
-/// Appends filters without tests until there are about 32, to come near refusal 1.
+/// Appends filters without tests until there are about 64, to come near refusal 1.
 fn fill_up(random: &mut Random, list: &mut Vec<u32>) {
     for _ in 0..random.between(MOST_FILTERS - 8, MOST_FILTERS + 1) {
         list.extend([1 + random.below(3) as u32, random.below(3) as u32, 0]);

@@ -1,5 +1,7 @@
 //! Seeded numbers, the same on every machine (splitmix64).
 
+use crate::sizes::Set;
+
 pub struct Random(u64);
 
 impl Random {
@@ -24,6 +26,11 @@ impl Random {
 
     pub fn word(&mut self) -> u32 {
         (self.step() >> 32) as u32
+    }
+
+    /// A set of any filters.
+    pub fn set(&mut self) -> Set {
+        self.step()
     }
 
     pub fn byte(&mut self) -> u8 {

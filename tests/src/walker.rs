@@ -9,7 +9,7 @@ use crate::builder::{slots, RECORD_WORDS};
 use crate::cut::glance;
 use crate::fields::{read, FIELDS};
 use crate::rules::{Test, AT_LEAST};
-use crate::sizes::{ABSENT_AT, FAILS_AT, HOLDS_AT, OUT_AT, SURE_AT};
+use crate::sizes::{set_at, ABSENT_AT, FAILS_AT, HOLDS_AT, OUT_AT, SURE_AT};
 
 pub const REFUSED: u32 = 0;
 pub const DONE: u32 = 1;
@@ -42,14 +42,8 @@ pub fn classify(frame: &[u8], port: u8, table: &[u32], states: u32, allowance: u
         if final_state || asked == allowance {
             let ended = if final_state { DONE } else { STOPPED };
             let cut = u32::from(some_cut(frame, &absent));
-            return Answer {
-                ended,
-                refusal: 0,
-                sure: record[SURE_AT],
-                out: record[OUT_AT],
-                asked,
-                cut,
-            };
+            let (sure, out) = (set_at(record, SURE_AT), set_at(record, OUT_AT));
+            return Answer { ended, refusal: 0, sure, out, asked, cut };
         }
         let way = match readings[question.field as usize] {
             None => ABSENT_AT,

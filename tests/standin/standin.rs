@@ -6,8 +6,8 @@ mod plain;
 #[path = "../../bench/src/scanner.rs"]
 mod scanner;
 
-use filterbox_sys::{Field, Judged, Lamp, Scanned};
-use plain::{Answer, Built, FromTheBack, MOST_FILTERS, MOST_FRAME, SLOT};
+use filterbox_sys::{AnswerWords, Field, Judged, Lamp, Scanned, ScannedWords};
+use plain::{Built, FromTheBack, MOST_FILTERS, MOST_FRAME, MOST_TESTS, SLOT};
 use scanner::InTurn;
 use std::slice::{from_raw_parts, from_raw_parts_mut};
 
@@ -40,7 +40,7 @@ pub unsafe extern "C" fn filterbox_classify(
     table_len: usize,
     states: u32,
     allowance: u32,
-) -> Answer {
+) -> AnswerWords {
     plain::classify(
         from_raw_parts(frame, frame_len),
         port,
@@ -48,6 +48,7 @@ pub unsafe extern "C" fn filterbox_classify(
         states,
         allowance,
     )
+    .into()
 }
 
 /// # Safety
@@ -59,16 +60,16 @@ pub unsafe extern "C" fn filterbox_scan(
     frame: *const u8,
     frame_len: usize,
     port: u8,
-) -> Scanned {
+) -> ScannedWords {
     let (list, frame) = (from_raw_parts(list, list_len), from_raw_parts(frame, frame_len));
-    let refused = |refusal, filter| Scanned { refusal, filter, set: 0 };
+    let refused = |refusal, filter| Scanned { refusal, filter, set: 0 }.into();
     if let Err(built) = plain::check(list) {
         return refused(built.refusal, built.number);
     }
     if frame.len() > MOST_FRAME {
         return refused(12, 0);
     }
-    Scanned { refusal: 0, filter: 0, set: InTurn::new(list).scan_in_turn(frame, port) }
+    Scanned { refusal: 0, filter: 0, set: InTurn::new(list).scan_in_turn(frame, port) }.into()
 }
 
 /// # Safety
@@ -119,7 +120,7 @@ pub unsafe extern "C" fn filterbox_judge(
     if verdicts.len() != MOST_FILTERS || standing > 2 || verdicts.iter().any(|&verdict| verdict > 2) {
         return refused(16);
     }
-    let answer = plain::classify(frame, port, table, states, 256);
+    let answer = plain::classify(frame, port, table, states, (MOST_FILTERS * MOST_TESTS) as u32);
     match answer.ended {
         0 => refused(answer.refusal),
         1 => {

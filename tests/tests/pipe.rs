@@ -94,9 +94,9 @@ fn one_case(case: usize) {
 
 /// Judging by all three, then clearing.
 fn judge(place: Place, frame: &Frame, table: &[u32], states: u32, full: bool) {
-    let verdicts: Vec<u32> = (0..32).map(|i| i % 3).collect();
+    let verdicts: Vec<u32> = (0..64).map(|i| i % 3).collect();
     let by = Setting { table, states, verdicts: &verdicts, standing: 1 };
-    let mut should = vec![if full { u32::MAX } else { 5 }; 33];
+    let mut should = vec![if full { u32::MAX } else { 5 }; 65];
     let (mut far, mut here) = (should.clone(), should.clone());
     let ask = |library: Library, tallies: &mut [u32]| library.at(place).judge(frame, &by, tallies);
     let over_the_pipe = ask(Library::piped(), &mut far);
@@ -105,15 +105,15 @@ fn judge(place: Place, frame: &Frame, table: &[u32], states: u32, full: bool) {
     assert!(far == here && far == should, "tallies of {frame:?}");
     Library::piped().at(place).clear(&mut far);
     library().at(place).clear(&mut here);
-    assert!(far == [0; 33] && here == [0; 33]);
+    assert!(far == [0; 65] && here == [0; 65]);
 }
 
 fn lengths() {
     let slot_words = library().scratch_words();
     for place in PLACES {
         assert_eq!(build(place, &[], 0, 0).0.refusal, 11);
-        assert_eq!(build(place, &empty_filters(33), 9, 0).0.refusal, 1);
-        assert_eq!(build(place, &ECHO, 90, 10 * slot_words).0.number, 10);
+        assert_eq!(build(place, &empty_filters(65), 11, 0).0.refusal, 1);
+        assert_eq!(build(place, &ECHO, 110, 10 * slot_words).0.number, 10);
         let most = builder::MOST_SLOTS;
         assert_eq!(build(place, &ECHO, most * RECORD_WORDS + 5, most * slot_words).0.number, 10);
     }

@@ -21,18 +21,18 @@ use filterbox_tests::tools::root;
 
 const EXAMPLE: &str = "\
 states 10
-0 1 11 255 8 1 4 8 0 0
-1 1 4 255 1 2 3 3 1 2
-2 0 0 0 0 0 0 0 5 2
-3 0 0 0 0 0 0 0 1 6
-4 1 11 255 0 5 8 8 0 1
-5 1 4 255 1 6 7 7 0 1
-6 0 0 0 0 0 0 0 6 1
-7 0 0 0 0 0 0 0 0 7
-8 1 4 255 1 9 7 7 0 3
-9 0 0 0 0 0 0 0 4 3
+0 1 11 255 8 1 4 8 0 0 0 0
+1 1 4 255 1 2 3 3 1 0 2 0
+2 0 0 0 0 0 0 0 5 0 2 0
+3 0 0 0 0 0 0 0 1 0 6 0
+4 1 11 255 0 5 8 8 0 0 1 0
+5 1 4 255 1 6 7 7 0 0 1 0
+6 0 0 0 0 0 0 0 6 0 1 0
+7 0 0 0 0 0 0 0 0 0 7 0
+8 1 4 255 1 9 7 7 0 0 3 0
+9 0 0 0 0 0 0 0 4 0 3 0
 ";
-const ONE_STATE: &str = "states 1\n0 0 0 0 0 0 0 0 0 0\n";
+const ONE_STATE: &str = "states 1\n0 0 0 0 0 0 0 0 0 0 0 0\n";
 
 /// Items that are no decimal numbers up to 4,294,967,295. Two of them would be small numbers if the
 /// greatest ones were left to wrap.
@@ -170,10 +170,10 @@ fn shipped_lists(program: &Program) {
 }
 
 fn refusals(program: &Program) {
-    let full = spaced(&empty_filters(32));
+    let full = spaced(&empty_filters(64));
     let cases = [
-        (format!("{full} 0"), "refused 1 32\n"),
-        (format!("{full} 0 0 0"), "refused 1 32\n"),
+        (format!("{full} 0"), "refused 1 64\n"),
+        (format!("{full} 0 0 0"), "refused 1 64\n"),
         ("0 0".to_string(), "refused 2 0\n"),
         ("0 0 0 0 0 1 1 13 255".to_string(), "refused 2 1\n"),
         ("0 256 0".to_string(), "refused 3 0\n"),
@@ -222,7 +222,7 @@ fn long_texts(program: &Program) {
     program.prints(&vec![b'\n'; MOST_TEXT + 1], "refused 14 0\n");
     program.prints(&vec![b' '; 3 * MOST_TEXT], "refused 14 0\n");
     // As many items as a text can hold, and one item of zeros only.
-    program.prints(&b"0 ".repeat(MOST_TEXT / 2), "refused 1 32\n");
+    program.prints(&b"0 ".repeat(MOST_TEXT / 2), "refused 1 64\n");
     program.prints(&vec![b'0'; MOST_TEXT], "refused 2 0\n");
     program.prints(&vec![b'9'; MOST_TEXT], "refused 14 0\n");
     program.prints(&[&[b'0'; MOST_TEXT - 2][..], b" x"].concat(), "refused 14 0\n");

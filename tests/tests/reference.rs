@@ -23,6 +23,7 @@ use filterbox_tests::rules::{
     read_list, tests, words, Filter, Refused, Test, AT_LEAST, AT_MOST, DIFFERS, EQUAL,
 };
 use filterbox_tests::scanner::match_set;
+use filterbox_tests::sizes::Set;
 use filterbox_tests::walker::{classify, Answer, DONE, STOPPED};
 
 const SEED: u64 = 0x0F17_7E2B_0C5A_11E5;
@@ -45,13 +46,13 @@ fn the_example_has_its_ten_records() {
 }
 
 #[test]
-fn the_example_in_89_and_90_words() {
+fn the_example_in_109_and_110_words() {
     let mut scratch = vec![7; 11 * MOST_SCRATCH_WORDS];
-    let mut table = vec![9; 89];
+    let mut table = vec![9; 109];
     let built = build(&ECHO, &mut table, &mut scratch, MOST_SCRATCH_WORDS);
     assert_eq!(built, Built { refusal: 11, number: 0 });
-    assert!(table[..81].iter().all(|&word| word == 0) && table[81..] == [9; 8]);
-    let mut table = vec![9; 90];
+    assert!(table[..99].iter().all(|&word| word == 0) && table[99..] == [9; 10]);
+    let mut table = vec![9; 110];
     let built = build(&ECHO, &mut table, &mut scratch, MOST_SCRATCH_WORDS);
     assert_eq!(built, Built { refusal: 0, number: 10 });
     assert_eq!(table, ECHO_RECORDS.concat());
@@ -89,7 +90,7 @@ fn remaining_tests_count_without_their_places() {
 #[test]
 fn lists_whose_states_are_counted_by_hand() {
     assert_eq!(states(&[]), Some(1));
-    assert_eq!(states(&read_list(&empty_filters(32)).expect("32 pass")), Some(1));
+    assert_eq!(states(&read_list(&empty_filters(64)).expect("64 pass")), Some(1));
     for count in 0..=11 {
         assert_eq!(states(&one_bit_tests(count)), Some((2 << count) - 1));
     }
@@ -97,7 +98,7 @@ fn lists_whose_states_are_counted_by_hand() {
     assert_eq!(states(&behind_impossible(1, one_bit_tests(11))), Some(4096));
     assert_eq!(states(&behind_impossible(2, one_bit_tests(11))), None);
     assert_eq!(states(&behind_impossible(3, one_bit_tests(3))), Some(18));
-    assert_eq!(states(&deepest()), Some(320));
+    assert_eq!(states(&deepest()), Some(640));
 }
 
 #[test]
@@ -108,7 +109,7 @@ fn the_deepest_list_asks_all_its_tests() {
     let frame = compose(&wishes, &Layout::plain(20));
     let (table, states) = table(&filters).expect("few states");
     let answer = classify(&frame.bytes, 0, &table, states, u32::MAX);
-    assert_eq!((answer.ended, answer.asked, answer.sure), (DONE, 256, u32::MAX));
+    assert_eq!((answer.ended, answer.asked, answer.sure), (DONE, 512, Set::MAX));
 }
 
 #[test]
@@ -135,14 +136,14 @@ fn each_refusal_of_a_list() {
         (&[0, 0, 1, 2, 6, 0x8000_0000, 1], 9, 0),
     ];
     for &(list, refusal, filter) in cases {
-        for before in [0, 1, 31] {
+        for before in [0, 1, 31, 32, 63] {
             let list = filters_before(before, list);
             let refused = Refused { refusal, filter: filter + before as u32 };
             assert_eq!(read_list(&list), Err(refused), "{list:?}");
         }
     }
-    assert_eq!(read_list(&empty_filters(33)), Err(Refused { refusal: 1, filter: 32 }));
-    assert_eq!(read_list(&filters_before(32, &[9])), Err(Refused { refusal: 1, filter: 32 }));
+    assert_eq!(read_list(&empty_filters(65)), Err(Refused { refusal: 1, filter: 64 }));
+    assert_eq!(read_list(&filters_before(64, &[9])), Err(Refused { refusal: 1, filter: 64 }));
 }
 
 #[test]
@@ -479,11 +480,11 @@ fn texts_of_the_program() {
     let long = vec![b' '; program::MOST_TEXT];
     assert_eq!(program::items(&long), Some(Vec::new()));
     assert_eq!(program::items(&[long, vec![b' ']].concat()), None);
-    assert_eq!(program::compile(b""), "states 1\n0 0 0 0 0 0 0 0 0 0\n");
+    assert_eq!(program::compile(b""), "states 1\n0 0 0 0 0 0 0 0 0 0 0 0\n");
     assert_eq!(program::compile(b"0 0 9"), "refused 4 0\n");
     let echo: Vec<String> = ECHO.iter().map(u32::to_string).collect();
     let lines = program::compile(echo.join(" ").as_bytes());
-    assert!(lines.starts_with("states 10\n0 1 11 255 8 1 4 8 0 0\n1 1 4 255 1 2 3 3 1 2\n"));
+    assert!(lines.starts_with("states 10\n0 1 11 255 8 1 4 8 0 0 0 0\n1 1 4 255 1 2 3 3 1 0 2 0\n"));
     assert_eq!(lines.lines().count(), 11);
 }
 
@@ -495,15 +496,15 @@ fn a_build_touches_only_its_words() {
         let built = build(&ECHO, &mut table, &mut scratch, MOST_SCRATCH_WORDS);
         (built, table, scratch)
     };
-    let (built, table, scratch) = echo_with(8, 3);
+    let (built, table, scratch) = echo_with(10, 3);
     assert_eq!((built.refusal, built.number), (11, 0));
-    assert!(table == vec![5; 8] && scratch == vec![6; 3]);
+    assert!(table == vec![5; 10] && scratch == vec![6; 3]);
     let (built, table, scratch) = echo_with(12 * RECORD_WORDS, 12 * MOST_SCRATCH_WORDS - 1);
     assert_eq!((built.refusal, built.number), (10, 0));
     assert!(table.iter().all(|&word| word == 5) && scratch.iter().all(|&word| word == 6));
     let (built, table, scratch) = echo_with(12 * RECORD_WORDS + 3, 12 * MOST_SCRATCH_WORDS + 2);
     assert_eq!((built.refusal, built.number), (0, 10));
-    assert!(table[90..].iter().all(|&word| word == 5));
+    assert!(table[110..].iter().all(|&word| word == 5));
     assert!(scratch[..12 * MOST_SCRATCH_WORDS].iter().all(|&word| word == 0));
     assert_eq!(scratch[12 * MOST_SCRATCH_WORDS..], [6, 6]);
 }

@@ -48,7 +48,7 @@ fn build_accepted(list: &[u32], n: usize, table: &mut [u32], scratch: &mut [u32]
     if scratch.len() < SLOT_WORDS * slots {
         return Built::Refused(10, 0);
     }
-    let mut ranks = [0u32; MAX_FILTERS];
+    let mut ranks = [sets::EMPTY; MAX_FILTERS];
     lists::rank_sets(list, &mut ranks);
     let extent = start::place_start(&ranks, list, n, slots, table, scratch);
     words::clear(scratch, SLOT_WORDS * slots);

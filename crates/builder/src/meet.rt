@@ -2,6 +2,7 @@
 use crate::Met;
 use crate::Sought;
 use residue::Outcome;
+use sets::Set;
 use slots::FILTER_WORDS;
 use slots::SLOT_WORDS;
 use tables::Fresh;
@@ -20,13 +21,13 @@ ghost use Rattle.builder.specs.inner.Memory.{slotAt, statesIn, soughtIn}
 ghost use Rattle.builder.specs.inner.Promises.{Ready, Held, Search, Store, Stored, Meeting};
 
 // The record of a state, with no next numbers yet.
-pub fn fresh_of(state: &[u32], n: usize, ranks: &[u32]) -> Fresh
+pub fn fresh_of(state: &[u32], n: usize, ranks: &[Set]) -> Fresh
     requires { ⌜ Ranked n (now ranks) (now state) ⌝ }
     ensures { λ r. ⌜ freshBy r ≡ freshOf (slotsIn n (now (ranks .entry))) (now (state .entry)) ⌝ }
 {
     let asked = slots::question_of(state, n);
-    let sure = slots::sure_set(state, n, ranks);
     let out = slots::out_set(state, n);
+    let sure = slots::sure_set(state, n, ranks, out);
     Fresh {
         kind: asked.kind,
         field: asked.field,
@@ -84,7 +85,7 @@ pub fn store(
 }
 
 // The state after a state's own question came to an outcome.
-fn step_into(src: &[u32], dst: &mut [u32], n: usize, ranks: &[u32], outcome: Outcome)
+fn step_into(src: &[u32], dst: &mut [u32], n: usize, ranks: &[Set], outcome: Outcome)
     requires { ⌜ Stepped n (now ranks) (now src) (now dst) ⌝ }
     ensures { λ _. ⌜ now (dst .exit) ≡ stepWords n (now (ranks .entry)) outcome (now (src .entry)) ⌝ }
 {
@@ -95,7 +96,7 @@ fn step_into(src: &[u32], dst: &mut [u32], n: usize, ranks: &[u32], outcome: Out
 // Meets the state that an outcome leads to from the state in slot `at`. It is made outside the slots: where all are used an old state is still recognised.
 // Its words are lent, since the recursion comes through here and an array would stand in each of its frames; what is left in them is read by nobody, so nothing is said of it.
 pub fn meet(
-    ranks: &[u32],
+    ranks: &[Set],
     n: usize,
     slots: usize,
     table: &mut [u32],

@@ -4,6 +4,7 @@ use crate::Met;
 use crate::meet::asks;
 use crate::meet::meet;
 use residue::Outcome;
+use sets::Set;
 ghost use Prim.Native.Nat.{_*_, _≤_};
 ghost use lib.ListN.{length};
 ghost use Rattle.slots.specs.Words.{filterSlot};
@@ -13,7 +14,7 @@ ghost use Rattle.builder.specs.inner.Promises.{Ready, Asking, StatePlace
 
 // Builds the way of an outcome from the state in slot `at`, which has a question: its state, and that state's ways if it is new. Fewer tests remain in the new state, so this ends. The words are room for `meet`.
 fn place_way(
-    ranks: &[u32],
+    ranks: &[Set],
     n: usize,
     slots: usize,
     table: &mut [u32],
@@ -49,7 +50,7 @@ fn place_way(
 // The three calls stand a line each, so that they can be read against one another.
 #[rattlefmt::skip]
 pub fn place_state(
-    ranks: &[u32],
+    ranks: &[Set],
     n: usize,
     slots: usize,
     table: &mut [u32],

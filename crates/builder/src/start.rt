@@ -3,6 +3,7 @@ use crate::Extent;
 use crate::meet::fresh_of;
 use crate::meet::store;
 use crate::place::place_state;
+use sets::Set;
 use slots::FILTER_WORDS;
 use slots::SLOT_WORDS;
 ghost use Rattle.lists.specs.Filters.{filtersOf};
@@ -10,7 +11,7 @@ ghost use Rattle.builder.specs.inner.Started.{Started, Startable};
 
 // Places the start and its ways. The words of the start become the room in which every later state is made.
 pub fn place_start(
-    ranks: &[u32],
+    ranks: &[Set],
     list: &[u32],
     n: usize,
     slots: usize,

@@ -1,7 +1,7 @@
 -- The public calls' answers as the fields of C structs.
---   endedWith e r x  how a walk ended (0 refused, 1 done, 2 stopped), the refusal's number, and what was found; 1 for the mark where it is set
+--   endedWith e r x  how a walk ended (0 refused, 1 done, 2 stopped), the refusal's number, and what was found: each set in two words, 1 for the mark where it is set
 --   classified a     these numbers for each case of the enum Answer
---   matched a        the refusal's number or 0, the filter's number, the match set, for each case of the enum Scanned
+--   matched a        the refusal's number or 0, the filter's number, the match set in two words, for each case of the enum Scanned
 --   lampWith n       the numbers of the lamp's answer
 --   fieldWith s      whether a field is there (0 none, 1 value, 2 cut), and its value or 0, for each case of the enum Seen
 --   builtWith b      the refusal's number or 0, the number of states or the filter's number, for each case of the enum Built
@@ -12,6 +12,7 @@ use mathlib.Core.Path.{_≡_}
 use Prim.Native.Nat.{ℕ}
 use mathlib.Core.List.{List}
 use Rattle.sets.specs.Sets.{bit}
+use Rattle.sets.specs.Halves.{lowHalf, highHalf}
 use Rattle.fields.specs.declared.Seen.{Seen}
 use Rattle.fields.specs.declared.Seen.the-variants as F
 use Rattle.matcher.specs.declared.Found.{Found}
@@ -34,7 +35,17 @@ use Rattle.filterbox.specs.declared.FilterboxScanned.{FilterboxScanned}
 use Rattle.filterbox.specs.declared.FilterboxJudged.{FilterboxJudged}
 
 abbrev pub endedWith : ℕ → ℕ → Found → FilterboxAnswer
-endedWith e r x = record { ended = e; refusal = r; sure = x .sure; out = x .out; asked = x .asked; cut = bit (x .cut) }
+endedWith e r x =
+    record {
+      ended = e;
+      refusal = r;
+      «sure_low» = lowHalf (x .sure);
+      «sure_high» = highHalf (x .sure);
+      «out_low» = lowHalf (x .out);
+      «out_high» = highHalf (x .out);
+      asked = x .asked;
+      cut = bit (x .cut);
+    }
 
 -- A refusal has zeros for what was found.
 unfoldable pub classified : Answer → FilterboxAnswer
@@ -44,8 +55,8 @@ classified (A.Refused n) = endedWith 0 n (found (A.Refused n))
 
 -- A refusal has an empty set.
 unfoldable pub matched : Scanned → FilterboxScanned
-matched (S.Matched s) = record { refusal = 0; filter = 0; set = s }
-matched (S.Refused r i) = record { refusal = r; filter = i; set = 0 }
+matched (S.Matched s) = record { refusal = 0; filter = 0; «set_low» = lowHalf s; «set_high» = highHalf s }
+matched (S.Refused r i) = record { refusal = r; filter = i; «set_low» = 0; «set_high» = 0 }
 
 abbrev pub lampWith : L.Numbers → FilterboxLamp
 lampWith n = record { refusal = n .refusal; filter = n .filter; lit = n .lit; asked = n .asked }

@@ -27,11 +27,11 @@ filterbox-build-tight l a b ta tb sa sb x y = (
   x .scratch ∙ sym (y .scratch),
 )
 
--- filterbox_classify: the six numbers; it writes nothing.
+-- filterbox_classify: the eight numbers; it writes nothing.
 pub filterbox-classify-tight : (w : Answer) (a b : FilterboxAnswer) → a ≡ classified w → b ≡ classified w → a ≡ b
 filterbox-classify-tight w a b x y = x ∙ sym y
 
--- filterbox_scan: the three numbers; it writes nothing.
+-- filterbox_scan: the four numbers; it writes nothing.
 pub filterbox-scan-tight : (w : Scanned) (a b : FilterboxScanned) → a ≡ matched w → b ≡ matched w → a ≡ b
 filterbox-scan-tight w a b x y = x ∙ sym y
 

@@ -62,14 +62,16 @@ pub extern "C" fn filterbox_scratch_words() -> u32
     SCRATCH_WORDS
 }
 
-// How a walk ended (0 refused, 1 done, 2 stopped), the refusal's number or 0, the sure set, the out set, the questions asked,
-// and 1 where some of them met a cut field, else 0.
+// How a walk ended (0 refused, 1 done, 2 stopped), the refusal's number or 0, the sure set and the out set in two words each, the
+// questions asked, and 1 where some of them met a cut field, else 0.
 #[repr(C)]
 pub struct FilterboxAnswer {
     pub ended: u32,
     pub refusal: u32,
-    pub sure: u32,
-    pub out: u32,
+    pub sure_low: u32,
+    pub sure_high: u32,
+    pub out_low: u32,
+    pub out_high: u32,
     pub asked: u32,
     pub cut: u32,
 }
@@ -90,8 +92,10 @@ fn ended_with(ended: u32, refusal: u32, found: Found) -> FilterboxAnswer
     FilterboxAnswer {
         ended,
         refusal,
-        sure: found.sure,
-        out: found.out,
+        sure_low: sets::low_half(found.sure),
+        sure_high: sets::high_half(found.sure),
+        out_low: sets::low_half(found.out),
+        out_high: sets::high_half(found.out),
         asked: found.asked,
         cut: bit_of(found.cut),
     }
@@ -129,12 +133,13 @@ pub extern "C" fn filterbox_classify(
     answer_of(matcher::classify(frame, port, table, states, allowance))
 }
 
-// The refusal's number or 0, the filter's number for refusals 1 to 9, and the match set, which is empty where refused.
+// The refusal's number or 0, the filter's number for refusals 1 to 9, and the match set in two words, which is empty where refused.
 #[repr(C)]
 pub struct FilterboxScanned {
     pub refusal: u32,
     pub filter: u32,
-    pub set: u32,
+    pub set_low: u32,
+    pub set_high: u32,
 }
 
 fn scanned_of(answer: Scanned) -> FilterboxScanned
@@ -144,12 +149,14 @@ fn scanned_of(answer: Scanned) -> FilterboxScanned
         Scanned::Matched(set) => FilterboxScanned {
             refusal: 0,
             filter: 0,
-            set,
+            set_low: sets::low_half(set),
+            set_high: sets::high_half(set),
         },
         Scanned::Refused(number, filter) => FilterboxScanned {
             refusal: number,
             filter,
-            set: 0,
+            set_low: 0,
+            set_high: 0,
         },
     }
 }

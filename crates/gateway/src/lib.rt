@@ -35,7 +35,7 @@ pub enum Judged {
 fn lowest_of(set: Set) -> u32
     ensures { λ r. ⌜ r ≡ lowestOf set ⌝ }
 {
-    u32::trailing_zeros(set)
+    sets::zeros_below(set)
 }
 
 // Whether each entry of a verdict table is a verdict.

@@ -170,7 +170,7 @@ fn light_accepted(
     if fault != 0 {
         return Lamp::Refused(fault, 0);
     }
-    let mut ranks = [0u32; MAX_FILTERS];
+    let mut ranks = [sets::EMPTY; MAX_FILTERS];
     lists::rank_sets(list, &mut ranks);
     let mut values = [0u32; FIELDS];
     let present = fields::read_header(frame, port, &mut values);

@@ -1,5 +1,5 @@
 -- Document 01, "Tests, filters, ranks", second paragraph: a list is a run of words.
---   maxFilters, maxTests, maxRank   32 filters, 8 tests a filter, groups and levels to 255
+--   maxFilters, maxTests, maxRank   64 filters, as many as a set has bits; 8 tests a filter; groups and levels to 255
 --   headWords, testWords            three words before the tests, four words a test
 --   kindEqual .. kindAtLeast        the kinds, 1 to 4
 --   kindAt .. valueAt               the places of a test's words
@@ -11,11 +11,12 @@ use mathlib.Core.Bool.{cond}
 use mathlib.Core.List.{List, [], _∷_}
 use lib.Dec.{eqb}
 use lib.ListN.{getD, drop}
+use Rattle.sets.specs.Sets.{setBits}
 use Rattle.residue.specs.declared.Test.{Test}
 use Rattle.residue.specs.declared.Test.the-variants.{Equal, Differs, AtMost, AtLeast}
 
 abbrev pub maxFilters : ℕ
-maxFilters = 32
+maxFilters = setBits
 
 abbrev pub maxTests : ℕ
 maxTests = 8

@@ -12,8 +12,8 @@ ghost use Rattle.lists.specs.inner.Columns.{Heads, aboveBy, rankSetBy};
 use residue::Test;
 use sets::Set;
 
-// The most filters of a list and tests of a filter; the greatest group and level.
-pub const MAX_FILTERS: usize = 32;
+// The most filters of a list, one for each bit of a set, and tests of a filter; the greatest group and level.
+pub const MAX_FILTERS: usize = sets::SET_BITS;
 
 pub const MAX_TESTS: usize = 8;
 
@@ -244,7 +244,7 @@ pub fn ranks_above(groups: &[u32], levels: &[u32], j: usize, i: usize) -> bool
     (group != 0) & (group == word_at(groups, i)) & ((lower < upper) | ((upper == lower) & (j < i)))
 }
 
-// The set of those among the first n filters that rank above filter i. n is at most 32, so each has its bit.
+// The set of those among the first n filters that rank above filter i. Each has its bit.
 fn above_set(groups: &[u32], levels: &[u32], n: usize, i: usize) -> Set
     requires { ⌜ n ≤ maxFilters ⌝ }
     ensures { λ r. ⌜ r ≡ setOf (tally n (λ j. aboveBy (now (groups .entry)) (now (levels .entry)) j i)) ⌝ }

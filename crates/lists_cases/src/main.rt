@@ -1,6 +1,7 @@
 // Shows what `lists` says of a list cut at every word, of lists with two faults, of long lists, and of ranks.
 // The file `stdout` was worked out by a script that was written from document 01 alone.
 use lists::Listed;
+use sets::Set;
 
 // Three filters: protocol is 6 and source differs from 10.0.0/24; no tests; destination port at most 65,535 and time to live at least 0.
 const GOOD: [u32; 25] = [
@@ -121,21 +122,21 @@ fn third_filter() {
     two_faults(17, 2, 19, 1);
 }
 
-// 32 filters take 96 words. A fault of the last filter comes before words that follow it, and those before their own faults.
+// 64 filters take 192 words. A fault of the last filter comes before words that follow it, and those before their own faults.
 fn long() {
-    let mut list = [0u32; 98];
-    cuts(&list, 93);
-    put(&mut list, 97, 256);
+    let mut list = [0u32; 194];
+    cuts(&list, 189);
+    put(&mut list, 193, 256);
     answer(&list);
-    put(&mut list, 93, 256);
+    put(&mut list, 189, 256);
     answer(&list);
 }
 
-fn show_sets(sets: &[u32], n: usize) {
+fn show_sets(sets: &[Set], n: usize) {
     let mut i: usize = 0;
     while i < n {
         if i < sets.len() {
-            io::print_decimal(1, sets[i] as u64);
+            io::print_decimal(1, sets[i]);
             io::write_all(1, b"\n");
         }
         i += 1;
@@ -143,7 +144,7 @@ fn show_sets(sets: &[u32], n: usize) {
 }
 
 fn show_ranks(list: &[u32], n: usize) {
-    let mut sets = [0u32; lists::MAX_FILTERS];
+    let mut sets = [sets::EMPTY; lists::MAX_FILTERS];
     lists::rank_sets(list, &mut sets);
     show_sets(&sets, n);
 }

@@ -1,6 +1,6 @@
 -- One turn of the walk: what each way out of a record says of the walk from record 0.
---   window t n             the nine words that are lent from word 9 n on
---   read t n j             word j of record n, as a walk reads it: out of those nine words
+--   window t n             the words of record n, as they are lent
+--   read t n j             word j of record n, as a walk reads it: out of those words
 --   Walking t m v a l b n  record n was reached with l questions left of a and the mark b, and the walk from there answers the whole walk
 --   Asking t m v a l b n   besides, record n is a question that may be asked, and leaves one question fewer
 use Prim.Native.Nat.{ℕ, zero, suc, _+_, _-_, _*_, _≤_, _<_}
@@ -20,7 +20,8 @@ use Rattle.fields.specs.Seen.{isCut, readingOf}
 use Rattle.fields.specs.declared.Seen.{Seen}
 use Rattle.fields.specs.laws.CutSet.{value-uncut}
 use Rattle.lists.specs.Filters.{kindAtLeast, testOf, kindAt, fieldAt}
-use Rattle.tables.specs.Tables.{recordWords, wordOf, setAt, sureSetAt, outSetAt}
+use Rattle.tables.specs.Tables.{recordWords, sureAt, outAt, wordOf, sureSetAt, outSetAt}
+use Rattle.tables.specs.laws.Layout.{set-read}
 use Rattle.matcher.specs.declared.Answer.{Answer}
 use Rattle.matcher.specs.declared.Answer.the-variants.{Refused}
 use Rattle.matcher.specs.Walk.{foundAt, damaged, nextBy, nextOf, cutOf, arrive, onward, walkFrom}
@@ -70,13 +71,13 @@ settles false false e end on on' = absurd (false≢true e)
 module _ (t : List ℕ) (m : ℕ) (v : ℕ → Seen) (k : ℕ) (b : Bool) (n : ℕ) where
   -- No question left: what the record shows by itself.
   at-end : endAt (window t n) k b ≡ walkFrom t m v 0 k b n
-  unfolding endAt foundIn walkFrom foundAt sureSetAt outSetAt setAt damaged
+  unfolding endAt foundIn walkFrom foundAt sureSetAt outSetAt damaged
   at-end =
       rw (
-        read-word t n 0 (omega arith),
-        read-word t n 1 (omega arith),
-        read-word t n 7 (omega arith),
-        read-word t n 8 (omega arith),
+        read-word t n kindAt (omega arith),
+        read-word t n fieldAt (omega arith),
+        set-read (read t n) (wordOf t n) sureAt recordWords (read-word t n) (omega arith),
+        set-read (read t n) (wordOf t n) outAt recordWords (read-word t n) (omega arith),
       )
 
   at-rest :
@@ -105,7 +106,7 @@ ends-words :
     endsAt (window t n) l ≡
     (eqb (wordOf t n kindAt) 0 || ltb kindAtLeast (wordOf t n kindAt) || ltb lastField (wordOf t n fieldAt) || eqb l 0)
 unfolding endsAt
-ends-words t n l = rw (read-word t n 0 (omega arith), read-word t n 1 (omega arith))
+ends-words t n l = rw (read-word t n kindAt (omega arith), read-word t n fieldAt (omega arith))
 
 module _ {t : List ℕ} {m : ℕ} {v : ℕ → Seen} {a l : ℕ} {b : Bool} {n : ℕ} (w : Walking t m v a l b n) where
   ended-by :

@@ -94,8 +94,8 @@ fn end(words: &[u32], asked: u32, cut: bool) -> Answer
     requires { ⌜ recordWords ≤ length (now words) ⌝ }
     ensures { λ r. ⌜ r ≡ endAt (now (words .entry)) asked cut ⌝ }
 {
-    let sure = words[SURE_AT];
-    let out = words[OUT_AT];
+    let sure = tables::set_at(words, SURE_AT);
+    let out = tables::set_at(words, OUT_AT);
     let found = Found {
         sure,
         out,

@@ -1,5 +1,5 @@
 // Runs classify on the table that document 01 prints, with an echo request of TTL 1: allowances, damaged tables,
-// numbers of states that do not fit, frames at the length limit. Prints how each walk ended and its numbers.
+// numbers of states that do not fit, sets in both halves, frames at the length limit. Prints how each walk ended and its numbers.
 ghost use mathlib.Core.Path.{_≡_};
 ghost use Prim.Native.Nat.{_<_, _≤_};
 ghost use lib.ListN.{length};
@@ -7,22 +7,22 @@ use libc::STDOUT_FILENO;
 use matcher::Answer;
 use matcher::Found;
 
-fn put_word(n: u32) {
+fn put_number(n: u64) {
     io::write_all(STDOUT_FILENO, b" ");
-    io::print_decimal(STDOUT_FILENO, n as u64);
+    io::print_decimal(STDOUT_FILENO, n);
 }
 
 fn put_found(found: Found) {
-    put_word(found.sure);
-    put_word(found.out);
-    put_word(found.asked);
-    put_word(found.cut as u32);
+    put_number(found.sure);
+    put_number(found.out);
+    put_number(found.asked as u64);
+    put_number(found.cut as u64);
     io::write_all(STDOUT_FILENO, b"\n");
 }
 
 fn put_refusal(n: u32) {
     io::write_all(STDOUT_FILENO, b"refused");
-    put_word(n);
+    put_number(n as u64);
     io::write_all(STDOUT_FILENO, b"\n");
 }
 
@@ -51,7 +51,7 @@ fn run(label: &[u8], frame: &[u8], table: &[u32], states: u32, allowance: u32) {
 }
 
 // The table that document 01 prints.
-const ECHO: [u32; 90] = [
+const ECHO: [u32; 110] = [
     1,
     11,
     255,
@@ -59,6 +59,8 @@ const ECHO: [u32; 90] = [
     1,
     4,
     8,
+    0,
+    0,
     0,
     0,
     1,
@@ -69,7 +71,9 @@ const ECHO: [u32; 90] = [
     3,
     3,
     1,
+    0,
     2,
+    0,
     0,
     0,
     0,
@@ -78,6 +82,7 @@ const ECHO: [u32; 90] = [
     0,
     0,
     5,
+    0,
     2,
     0,
     0,
@@ -86,8 +91,11 @@ const ECHO: [u32; 90] = [
     0,
     0,
     0,
+    0,
     1,
+    0,
     6,
+    0,
     1,
     11,
     255,
@@ -96,7 +104,9 @@ const ECHO: [u32; 90] = [
     8,
     8,
     0,
+    0,
     1,
+    0,
     1,
     4,
     255,
@@ -105,7 +115,9 @@ const ECHO: [u32; 90] = [
     7,
     7,
     0,
+    0,
     1,
+    0,
     0,
     0,
     0,
@@ -114,7 +126,10 @@ const ECHO: [u32; 90] = [
     0,
     0,
     6,
+    0,
     1,
+    0,
+    0,
     0,
     0,
     0,
@@ -124,6 +139,7 @@ const ECHO: [u32; 90] = [
     0,
     0,
     7,
+    0,
     1,
     4,
     255,
@@ -132,7 +148,9 @@ const ECHO: [u32; 90] = [
     7,
     7,
     0,
+    0,
     3,
+    0,
     0,
     0,
     0,
@@ -141,17 +159,19 @@ const ECHO: [u32; 90] = [
     0,
     0,
     4,
+    0,
     3,
+    0,
 ];
 
-fn echo_table() -> [u32; 90]
-    ensures { λ r. ⌜ length r ≡ 90 ⌝ }
+fn echo_table() -> [u32; 110]
+    ensures { λ r. ⌜ length r ≡ 110 ⌝ }
 {
     ECHO
 }
 
 // Three values of the time to live in a row: 9, 8, 1.
-const LIVES: [u32; 63] = [
+const LIVES: [u32; 77] = [
     1,
     4,
     255,
@@ -168,8 +188,12 @@ const LIVES: [u32; 63] = [
     0,
     0,
     0,
+    0,
+    0,
     1,
+    0,
     6,
+    0,
     1,
     4,
     255,
@@ -178,7 +202,9 @@ const LIVES: [u32; 63] = [
     4,
     4,
     0,
+    0,
     1,
+    0,
     0,
     0,
     0,
@@ -187,7 +213,9 @@ const LIVES: [u32; 63] = [
     0,
     0,
     2,
+    0,
     5,
+    0,
     1,
     4,
     255,
@@ -196,7 +224,9 @@ const LIVES: [u32; 63] = [
     6,
     6,
     0,
+    0,
     3,
+    0,
     0,
     0,
     0,
@@ -205,7 +235,10 @@ const LIVES: [u32; 63] = [
     0,
     0,
     4,
+    0,
     3,
+    0,
+    0,
     0,
     0,
     0,
@@ -215,10 +248,11 @@ const LIVES: [u32; 63] = [
     0,
     0,
     7,
+    0,
 ];
 
-fn lives_table() -> [u32; 63]
-    ensures { λ r. ⌜ length r ≡ 63 ⌝ }
+fn lives_table() -> [u32; 77]
+    ensures { λ r. ⌜ length r ≡ 77 ⌝ }
 {
     LIVES
 }
@@ -255,18 +289,18 @@ fn numbers(frame: &[u8], t: &[u32]) {
 
 // Slots are counted whole.
 fn short_tables(frame: &[u8], t: &[u32]) {
-    if t.len() < 90 {
+    if t.len() < 110 {
         return;
     }
-    let most = &t[0..89];
-    run(b"89 words, 10 states", frame, most, 10, 9);
-    run(b"89 words, 9 states", frame, most, 9, 9);
+    let most = &t[0..109];
+    run(b"109 words, 10 states", frame, most, 10, 9);
+    run(b"109 words, 9 states", frame, most, 9, 9);
     let none = &t[0..0];
     run(b"no words, 1 state", frame, none, 1, 9);
 }
 
 fn damaged_at(label: &[u8], frame: &[u8], at: usize, word: u32, allowance: u32)
-    requires { ⌜ at < 90 ⌝ }
+    requires { ⌜ at < 110 ⌝ }
 {
     let mut t = echo_table();
     t[at] = word;
@@ -277,14 +311,27 @@ fn damaged_at(label: &[u8], frame: &[u8], at: usize, word: u32, allowance: u32)
 fn damages(frame: &[u8]) {
     damaged_at(b"kind 5 in record 0, allowance 0", frame, 0, 5, 0);
     damaged_at(b"field 14 in record 0, allowance 0", frame, 1, 14, 0);
-    damaged_at(b"kind 5 in record 1, allowance 0", frame, 9, 5, 0);
-    damaged_at(b"kind 5 in record 1, allowance 1", frame, 9, 5, 1);
-    damaged_at(b"field 14 in final record 2", frame, 19, 14, 2);
+    damaged_at(b"kind 5 in record 1, allowance 0", frame, 11, 5, 0);
+    damaged_at(b"kind 5 in record 1, allowance 1", frame, 11, 5, 1);
+    damaged_at(b"field 14 in final record 2", frame, 23, 14, 2);
     damaged_at(b"next 10 in record 0, allowance 0", frame, 4, 10, 0);
     damaged_at(b"next 10 in record 0, allowance 1", frame, 4, 10, 1);
-    damaged_at(b"next 10 in record 1, allowance 2", frame, 13, 10, 2);
+    damaged_at(b"next 10 in record 1, allowance 2", frame, 15, 10, 2);
     damaged_at(b"next 10 on a way not taken", frame, 5, 10, 2);
     damaged_at(b"record 0 leads to itself, allowance 7", frame, 4, 0, 7);
+}
+
+// The second word of a set counts from filter 32 on, in a record that shows it at its end as in one that a walk stops at.
+fn high_halves(frame: &[u8]) {
+    damaged_at(b"filter 32 in the sure set of record 2", frame, 30, 1, 2);
+    damaged_at(
+        b"filter 63 in the out set of record 2",
+        frame,
+        32,
+        2147483648,
+        2,
+    );
+    damaged_at(b"filter 33 in the out set of record 1", frame, 21, 2, 1);
 }
 
 // Frames without fields, and at the greatest length.
@@ -321,6 +368,7 @@ fn walks(frame: &[u8], t: &[u32]) {
     numbers(frame, t);
     short_tables(frame, t);
     damages(frame);
+    high_halves(frame);
 }
 
 fn main() {

@@ -1,3 +1,3 @@
 pub mod Sets
-pub mod inner
+pub mod Halves
 pub mod laws

@@ -1,4 +1,5 @@
--- Sets of small numbers as bit sets (document 01, "States and the table": filter i is bit i). No width is named.
+-- Sets of small numbers as bit sets (document 01, "States and the table": filter i is bit i).
+--   setBits       how many numbers a set has a bit for; nothing else here names a width
 --   setOf bs      the set that holds i where the list has true at place i
 --   member i s    the set s holds i
 --   tally n p     the list p 0, p 1, .. of n truths, or of anything else
@@ -7,6 +8,9 @@ use Prim.Native.Nat.{ℕ, zero, suc, _+_, _*_, _/_, _%_, _^_}
 use mathlib.Core.Bool.{Bool, false, cond, _||_}
 use mathlib.Core.List.{List, [], _∷_, _++_}
 use lib.Dec.{eqb}
+
+abbrev pub setBits : ℕ
+setBits = 64
 
 abbrev pub bit : Bool → ℕ
 bit b = cond b 1 0

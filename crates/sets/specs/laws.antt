@@ -1,2 +1,3 @@
 pub mod Members
 pub mod Lone
+pub mod Halves

@@ -1,14 +1,14 @@
 -- One filter's part of a state's words, lent and come back; and the loop over the filters: what is written, then what is still to do, is the whole.
 -- Assumes nothing.
-use Prim.Native.Nat.{ℕ, suc, _+_, _*_, _-_, _≤_, _<_}
+use Prim.Native.Nat.{ℕ, zero, suc, _+_, _*_, _-_, _≤_, _<_}
 use mathlib.Core.Path.{_≡_, refl, sym, ap, ap₂, _∙_}
 use mathlib.Core.Bool.{cond}
-use mathlib.Core.List.{List, [], _++_, append-assoc, append-nil}
+use mathlib.Core.List.{List, [], _∷_, _++_, append-assoc, append-nil}
 use native.Mathlib.Omega.{arith}
 use borrow.Rule.Slice.PartMut.{midOf, postOf, putMid, same-len-mid, mid-len, drop-put}
-use lib.Bits.{bitAnd}
+use lib.Bits.{bitAnd, and-zero-r}
 use lib.Dec.{eqb}
-use lib.ListN.{length, getD, take, drop, length-append}
+use lib.ListN.{length, getD, take, drop, length-append, length-drop, take-append-drop}
 use lib.Seq.{take-at, length-take-le, take-all, drop-drop}
 use Rattle.residue.specs.declared.Fact.{Fact}
 use Rattle.states.specs.States.{cutStanding}
@@ -74,6 +74,16 @@ closed-more n i ranks held w h = rw (one-less n i h)
 pub closed-none : (n i : ℕ) (ranks : List ℕ) (held : ℕ) (w : List ℕ) → n ≤ i → closedIn (n - i) ranks held i w ≡ []
 unfolding closedIn
 closed-none n i ranks held w h = let z : n - i ≡ 0 = omega arith in rw z
+
+-- Where no filter is held all stay.
+pub closed-by-none : (n i : ℕ) (ranks w : List ℕ) → length w ≡ filterSlot * n → w ≡ closedIn n ranks 0 i w
+unfolding closedIn
+closed-by-none zero i ranks [] l = refl
+closed-by-none zero i ranks (a ∷ w) l = absurd (omega arith)
+closed-by-none (suc n) i ranks w l =
+    let rest : length (drop filterSlot w) ≡ filterSlot * n = omega (arith, length-drop filterSlot w) in
+    rw (and-zero-r (getD ranks i 0))
+    (sym (take-append-drop filterSlot w) ∙ ap (λ (x : List ℕ). take filterSlot w ++ x) (closed-by-none n (i + 1) ranks (drop filterSlot w) rest))
 
 pub close-turn : (n i : ℕ) (ranks : List ℕ) (held : ℕ) (w p W : List ℕ) → i < n → length w ≡ filterSlot * n → length p ≡ filterSlot
     → p ≡ stays ranks held i (midOf (filterSlot * i) (filterSlot * i + filterSlot - filterSlot * i) w)

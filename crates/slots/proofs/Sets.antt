@@ -11,8 +11,7 @@ use lib.Dec.{eqb}
 use lib.ListN.{getD}
 use Rattle.residue.specs.Residues.{outside}
 use Rattle.residue.specs.laws.Bits.{and-not}
-use Rattle.sets.specs.Sets.{bit, setOf, tally}
-use Rattle.sets.specs.inner.Width.{setBits}
+use Rattle.sets.specs.Sets.{setBits, bit, setOf, tally}
 use Rattle.sets.specs.laws.Members.{tally-put, tally-bound}
 use Rattle.slots.specs.Words.{filterSlot}
 use Rattle.slots.specs.inner.Slots.{headOf}

@@ -1,4 +1,4 @@
--- Document 01, "States and the table": scratch words a slot (a fixed number, at most 1,024), and the words of a question.
+-- Document 01, "States and the table": scratch words a slot (a fixed number, at most 2,048 since document 02, P8), and the words of a question.
 --   filterSlot, slotWords   words a filter and words a slot
 --   questionWords a         the words of a question; zeros where nothing is asked
 use Prim.Native.Nat.{ℕ, _*_}

@@ -90,12 +90,15 @@ fn close_by(w: &mut [u32], n: usize, ranks: &[Set], held: Set)
     }
 }
 
-// Each filter that ranks below a held one made out.
+// Each filter that ranks below a held one made out. Of most states no filter is held.
 pub fn close(w: &mut [u32], n: usize, ranks: &[Set])
     requires { ⌜ Ranked n (now ranks) (now w) ⌝ }
     ensures { λ _. ⌜ now (w .exit) ≡ closedWords n (now (ranks .entry)) (now (w .entry)) ⌝ }
 {
     let held = held_set(w, n);
+    if held == 0 {
+        return;
+    }
     close_by(w, n, ranks, held);
 }
 
@@ -113,12 +116,12 @@ fn cut_all(src: &[u32], dst: &mut [u32], n: usize, field: u32, fact: Fact)
     }
 }
 
-// Held, and every filter that ranks above it is out.
-pub fn sure_set(w: &[u32], n: usize, ranks: &[Set]) -> Set
+// Held, and every filter that ranks above it is in the out set.
+pub fn sure_set(w: &[u32], n: usize, ranks: &[Set], out: Set) -> Set
     requires { ⌜ Ranked n (now ranks) (now w) ⌝ }
+    requires { ⌜ out ≡ outSetIn n (now w) ⌝ }
     ensures { λ r. ⌜ r ≡ sureSetIn n (now (ranks .entry)) (now (w .entry)) ⌝ }
 {
-    let out = out_set(w, n);
     let mut set: Set = 0;
     let mut i: usize = 0;
     while i < n {

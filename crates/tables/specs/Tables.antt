@@ -12,13 +12,14 @@ use mathlib.Core.List.{List, [], _∷_, _++_}
 use lib.ListN.{length, getD}
 use Rattle.residue.specs.declared.Outcome.{Outcome}
 use Rattle.residue.specs.declared.Outcome.the-variants.{Holds, Fails, Absent}
+use Rattle.sets.specs.Halves.{lowHalf, highHalf, ofHalves}
 use Rattle.lists.specs.Filters.{testWords}
 
 abbrev pub maxSlots : ℕ
 maxSlots = 4096
 
 abbrev pub setWords : ℕ
-setWords = 1
+setWords = 2
 
 -- The places of a record's words: its question's, as in a list; its next numbers, its sets.
 abbrev pub holdsAt : ℕ
@@ -44,9 +45,9 @@ nextAt Holds = holdsAt
 nextAt Fails = failsAt
 nextAt Absent = absentAt
 
--- A set is one word: filter i is bit i.
+-- A set is two words, the low half first (document 02, P8): filter i is bit i of the set.
 unfoldable pub asWords : ℕ → List ℕ
-asWords s = s ∷ []
+asWords s = lowHalf s ∷ highHalf s ∷ []
 
 unfoldable pub recordWith : List ℕ → (Outcome → ℕ) → ℕ → ℕ → List ℕ
 recordWith q next s o = q ++ (next Holds ∷ next Fails ∷ next Absent ∷ []) ++ asWords s ++ asWords o
@@ -58,7 +59,7 @@ unfoldable pub wordOf : List ℕ → ℕ → ℕ → ℕ
 wordOf t n j = getD t (recordWords * n + j) 0
 
 unfoldable pub setAt : (ℕ → ℕ) → ℕ → ℕ
-setAt word j = word j
+setAt word j = ofHalves (word j) (word (j + 1))
 
 unfoldable pub sureSetAt : List ℕ → ℕ → ℕ
 sureSetAt t n = setAt (wordOf t n) sureAt

@@ -6,11 +6,12 @@ ghost use lib.ListN.{length, getD, drop};
 ghost use Rattle.tables.specs.Tables.{setWords, recordWords, maxSlots, nextAt, setAt};
 ghost use Rattle.tables.specs.inner.Records.{putSet, freshBy, agree, recordAt, agreeingFrom, withNext};
 use residue::Outcome;
+use sets::Set;
 
 // The most slots of a table.
 pub const MAX_SLOTS: usize = 4096;
 // Words a set.
-pub const SET_WORDS: usize = 1;
+pub const SET_WORDS: usize = 2;
 
 // The places of a record's words: its question's, as in a list; its next numbers, its sets.
 pub const KIND_AT: usize = lists::KIND_AT;
@@ -39,8 +40,8 @@ pub struct Fresh {
     pub field: u32,
     pub mask: u32,
     pub value: u32,
-    pub sure: u32,
-    pub out: u32,
+    pub sure: Set,
+    pub out: Set,
 }
 
 // The slots of a table of so many words.
@@ -71,12 +72,15 @@ pub fn put_next(table: &mut [u32], n: usize, o: Outcome, next: u32)
     table[at] = next;
 }
 
-// Puts a set into the words from a place on.
-fn put_set(words: &mut [u32], at: usize, set: u32)
+// Puts a set into the words from a place on, its low half first.
+fn put_set(words: &mut [u32], at: usize, set: Set)
     requires { ⌜ at + setWords ≤ length (now words) ⌝ }
     ensures { λ _. ⌜ now (words .exit) ≡ putSet at set (now (words .entry)) ⌝ }
 {
-    words[at] = set;
+    let low = sets::low_half(set);
+    let high = sets::high_half(set);
+    words[at] = low;
+    words[at + 1] = high;
 }
 
 // Writes a record with no next numbers yet into the front of the words.
@@ -96,11 +100,13 @@ pub fn write_fresh(words: &mut [u32], fresh: Fresh)
 }
 
 // The set that the words from a place on say.
-fn set_at(words: &[u32], at: usize) -> u32
+pub fn set_at(words: &[u32], at: usize) -> Set
     requires { ⌜ at + setWords ≤ length (now words) ⌝ }
     ensures { λ r. ⌜ r ≡ setAt (λ j. getD (now (words .entry)) j 0) at ⌝ }
 {
-    words[at]
+    let low = words[at];
+    let high = words[at + 1];
+    sets::of_halves(low, high)
 }
 
 // Whether record n has the question and the sets of a fresh one, whatever its next numbers. Sets first, the out set before the sure set: of two records they differ most often.

@@ -4,7 +4,16 @@
 //! A new call takes its line in `calls!` and a function below it that takes slices.
 
 /// A set of filters: filter i is bit i.
-pub type Set = u32;
+pub type Set = u64;
+
+/// A set from its two words, and back; the low half is the first.
+pub const fn set(low: u32, high: u32) -> Set {
+    (high as Set) << 32 | low as Set
+}
+
+pub const fn halves(set: Set) -> [u32; 2] {
+    [set as u32, (set >> 32) as u32]
+}
 
 /// What building answers.
 #[repr(C)]
@@ -14,8 +23,7 @@ pub struct Built {
     pub number: u32,
 }
 
-/// What classifying answers.
-#[repr(C)]
+/// What classifying answers, each set as one number.
 #[derive(Clone, Copy, PartialEq, Eq, Debug)]
 pub struct Answer {
     pub ended: u32,
@@ -26,6 +34,37 @@ pub struct Answer {
     pub cut: u32,
 }
 
+/// The same as the call has it.
+#[repr(C)]
+pub struct AnswerWords {
+    pub ended: u32,
+    pub refusal: u32,
+    pub sure_low: u32,
+    pub sure_high: u32,
+    pub out_low: u32,
+    pub out_high: u32,
+    pub asked: u32,
+    pub cut: u32,
+}
+
+impl From<AnswerWords> for Answer {
+    #[inline(always)]
+    fn from(words: AnswerWords) -> Answer {
+        let AnswerWords { ended, refusal, sure_low, sure_high, out_low, out_high, asked, cut } =
+            words;
+        let (sure, out) = (set(sure_low, sure_high), set(out_low, out_high));
+        Answer { ended, refusal, sure, out, asked, cut }
+    }
+}
+
+impl From<Answer> for AnswerWords {
+    fn from(answer: Answer) -> AnswerWords {
+        let Answer { ended, refusal, sure, out, asked, cut } = answer;
+        let ([sure_low, sure_high], [out_low, out_high]) = (halves(sure), halves(out));
+        AnswerWords { ended, refusal, sure_low, sure_high, out_low, out_high, asked, cut }
+    }
+}
+
 /// What reading one field answers.
 #[repr(C)]
 #[derive(Clone, Copy, PartialEq, Eq, Debug)]
@@ -34,13 +73,36 @@ pub struct Field {
     pub value: u32,
 }
 
-/// What scanning answers.
-#[repr(C)]
+/// What scanning answers, the set as one number.
 #[derive(Clone, Copy, PartialEq, Eq, Debug)]
 pub struct Scanned {
     pub refusal: u32,
     pub filter: u32,
     pub set: Set,
+}
+
+/// The same as the call has it.
+#[repr(C)]
+pub struct ScannedWords {
+    pub refusal: u32,
+    pub filter: u32,
+    pub set_low: u32,
+    pub set_high: u32,
+}
+
+impl From<ScannedWords> for Scanned {
+    #[inline(always)]
+    fn from(words: ScannedWords) -> Scanned {
+        let ScannedWords { refusal, filter, set_low, set_high } = words;
+        Scanned { refusal, filter, set: set(set_low, set_high) }
+    }
+}
+
+impl From<Scanned> for ScannedWords {
+    fn from(scanned: Scanned) -> ScannedWords {
+        let [set_low, set_high] = halves(scanned.set);
+        ScannedWords { refusal: scanned.refusal, filter: scanned.filter, set_low, set_high }
+    }
 }
 
 /// What the lamp answers.
@@ -97,12 +159,12 @@ calls! {
     fn filterbox_classify(
         frame: *const u8, frame_len: usize, port: u8,
         table: *const u32, table_len: usize, states: u32, allowance: u32
-    ) -> Answer;
+    ) -> AnswerWords;
 
     fn filterbox_scan(
         list: *const u32, list_len: usize,
         frame: *const u8, frame_len: usize, port: u8
-    ) -> Scanned;
+    ) -> ScannedWords;
 
     fn filterbox_lamp(
         list: *const u32, list_len: usize,
@@ -154,6 +216,7 @@ pub fn classify(frame: &[u8], port: u8, table: &[u32], states: u32, allowance: u
             states,
             allowance,
         )
+        .into()
     }
 }
 
@@ -161,7 +224,7 @@ pub fn classify(frame: &[u8], port: u8, table: &[u32], states: u32, allowance: u
 #[inline(always)]
 pub fn scan(list: &[u32], frame: &[u8], port: u8) -> Scanned {
     // SAFETY: as above; the call writes nothing.
-    unsafe { filterbox_scan(list.as_ptr(), list.len(), frame.as_ptr(), frame.len(), port) }
+    unsafe { filterbox_scan(list.as_ptr(), list.len(), frame.as_ptr(), frame.len(), port).into() }
 }
 
 /// Whether any filter of a list matches.

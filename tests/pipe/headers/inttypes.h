@@ -2,4 +2,5 @@
 #define INTTYPES_H
 #include <stdint.h>
 #define PRIu32 "u"
+#define PRIu64 "lu"
 #endif

@@ -4,6 +4,7 @@
 use std::collections::BTreeSet;
 use std::fs;
 
+use filterbox_tests::builder::{record, RECORD_WORDS};
 use filterbox_tests::coverage::Coverage;
 use filterbox_tests::cut::{glance, search, seen, Seen};
 use filterbox_tests::examples::{test, ECHO_RECORDS};
@@ -230,7 +231,7 @@ fn taken(coverage: &mut Coverage) {
         classify_noted(&frame, &built.table, built.states(), allowance, coverage)
     };
     let expect = |ended, out, asked: u32, cut| {
-        let sure = asked.min(1);
+        let sure = asked.min(1).into();
         Answer { ended, refusal: 0, sure, out, asked, cut }
     };
     assert_eq!(answer(0, coverage), expect(STOPPED, 0, 0, 0));
@@ -241,12 +242,13 @@ fn taken(coverage: &mut Coverage) {
 /// A table whose second record is damaged, behind a question that meets a cut field.
 fn refusals(coverage: &mut Coverage) {
     let frame = Frame { bytes: vec![0; 10], port: 0 };
-    let damaged = [1, 0, 1, 0, 1, 1, 1, 0, 0, 9, 9, 9, 9, 9, 9, 9, 9, 9];
-    let away = [1, 0, 1, 0, 1, 1, 7, 0, 0, 9, 9, 9, 9, 9, 9, 9, 9, 9];
+    let behind = [9; RECORD_WORDS];
+    let damaged = [record([1, 0, 1, 0], [1, 1, 1], 0, 0), behind].concat();
+    let away = [record([1, 0, 1, 0], [1, 1, 7], 0, 0), behind].concat();
     let refused = Answer { ended: REFUSED, refusal: 13, sure: 0, out: 0, asked: 0, cut: 0 };
-    for table in [damaged, away] {
+    for table in [&damaged, &away] {
         for allowance in [1, 2, u32::MAX] {
-            assert_eq!(classify_noted(&frame, &table, 2, allowance, coverage), refused);
+            assert_eq!(classify_noted(&frame, table, 2, allowance, coverage), refused);
         }
     }
     let long = Frame { bytes: vec![0; MOST_FRAME + 1], port: 0 };

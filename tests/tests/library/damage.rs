@@ -1,6 +1,6 @@
 //! Damaged and foreign tables: classifying must give what the words say, or 13, and must end.
 
-use filterbox_tests::builder::{records, MOST_SLOTS, RECORD_WORDS};
+use filterbox_tests::builder::{record, records, Record, MOST_SLOTS, RECORD_WORDS};
 use filterbox_tests::coverage::Coverage;
 use filterbox_tests::examples::{ECHO, ECHO_RECORDS};
 use filterbox_tests::fields::{full, FIELDS};
@@ -35,27 +35,32 @@ fn record_checks(coverage: &mut Coverage) {
         classify_noted(&frame, table, states, allowance, coverage)
     };
     // A damaged record 0 is refused before any question.
-    assert_eq!(answer(&[5, 0, 0, 0, 0, 0, 0, 1, 2], 1, 0), DAMAGED);
-    assert_eq!(answer(&[1, 14, 0, 0, 0, 0, 0, 1, 2], 1, 0), DAMAGED);
+    assert_eq!(answer(&record([5, 0, 0, 0], [0; 3], 1, 2), 1, 0), DAMAGED);
+    assert_eq!(answer(&record([1, 14, 0, 0], [0; 3], 1, 2), 1, 0), DAMAGED);
     // Kind 0 is done at allowance 0, whatever its field.
     let done = Answer { ended: DONE, refusal: 0, sure: 1, out: 2, asked: 0, cut: 0 };
-    assert_eq!(answer(&[0, 99, 7, 7, 99, 99, 99, 1, 2], 1, 0), done);
+    assert_eq!(answer(&record([0, 99, 7, 7], [99; 3], 1, 2), 1, 0), done);
     // A next state out of range counts only where a way is taken.
-    let circle = [1, 13, 255, 0, 1, 1, 1, 1, 2];
+    let circle = record([1, 13, 255, 0], [1; 3], 1, 2);
     let stopped = Answer { ended: STOPPED, refusal: 0, sure: 1, out: 2, asked: 0, cut: 0 };
     assert_eq!(answer(&circle, 1, 0), stopped);
     assert_eq!(answer(&circle, 1, 1), DAMAGED);
     assert_eq!(answer(&circle, 1, u32::MAX), DAMAGED);
     // Only the next state that is chosen is looked at.
-    let chosen = [[1, 13, 255, 0, 1, 9, 9, 0, 0], [0, 0, 0, 0, 0, 0, 0, 4, 8]].concat();
+    let first = record([1, 13, 255, 0], [1, 9, 9], 0, 0);
+    let chosen = [first, record([0; 4], [0; 3], 4, 8)].concat();
     let done = Answer { ended: DONE, refusal: 0, sure: 4, out: 8, asked: 1, cut: 0 };
     assert_eq!(answer(&chosen, 2, 1), done);
     // The record behind the last allowed question is checked as well.
-    let behind = [[1, 13, 255, 0, 1, 9, 9, 0, 0], [7, 0, 0, 0, 0, 0, 0, 4, 8]].concat();
+    let behind = [first, record([7, 0, 0, 0], [0; 3], 4, 8)].concat();
     assert_eq!(answer(&behind, 2, 1), DAMAGED);
     assert_eq!(answer(&behind, 2, 0).ended, STOPPED);
     // Kinds 3 and 4 don't look at the mask, and a value above full is no damage.
-    let ranges = [[3, 13, 0xFF00, 300, 1, 0, 0, 0, 0], [4, 13, 1, 300, 0, 2, 0, 0, 0], [0; 9]];
+    let ranges = [
+        record([3, 13, 0xFF00, 300], [1, 0, 0], 0, 0),
+        record([4, 13, 1, 300], [0, 2, 0], 0, 0),
+        [0; RECORD_WORDS],
+    ];
     assert_eq!(answer(&ranges.concat(), 3, 9).asked, 2);
 }
 
@@ -63,9 +68,11 @@ fn numbers_of_states(coverage: &mut Coverage) {
     let built = build_in_slots(&ECHO, 13, coverage);
     let frame = echo_request(1);
     let odd = [built.table.clone(), vec![0; 5]].concat();
-    for table in [&built.table[..], &odd[..], &built.table[..90], &built.table[..89]] {
+    for table in [&built.table[..], &odd[..], &built.table[..110], &built.table[..109]] {
         let slots = table.len() / RECORD_WORDS;
-        for states in (0..20).chain([u32::MAX - 1, u32::MAX, 0x8000_0000, 0x1C71_C71D]) {
+        // So many records have fewer words than the table if their number is taken in 32 bits.
+        let wraps = u32::MAX / RECORD_WORDS as u32 + 1;
+        for states in (0..20).chain([u32::MAX - 1, u32::MAX, 0x8000_0000, wraps]) {
             for allowance in [0, 1, 2, 3, u32::MAX] {
                 let answer = classify_noted(&frame, table, states, allowance, coverage);
                 if states == 0 || states as usize > slots {
@@ -76,7 +83,7 @@ fn numbers_of_states(coverage: &mut Coverage) {
     }
     assert_eq!(classify_noted(&frame, &[], 0, 0, coverage), DAMAGED);
     assert_eq!(classify_noted(&frame, &[], 1, 0, coverage), DAMAGED);
-    assert_eq!(classify_noted(&frame, &[0; 8], 1, 0, coverage), DAMAGED);
+    assert_eq!(classify_noted(&frame, &[0; 10], 1, 0, coverage), DAMAGED);
     // More words than 4,096 slots take make no more slots.
     let large = vec![0; (MOST_SLOTS + 20) * RECORD_WORDS];
     for (states, ended) in [(4095, DONE), (4096, DONE), (4097, REFUSED), (4116, REFUSED)] {
@@ -164,7 +171,7 @@ fn random_damaged(coverage: &mut Coverage) {
 }
 
 /// A record as nobody's builder would write it, mostly without damage.
-pub fn foreign_record(random: &mut Random, states: u32) -> [u32; RECORD_WORDS] {
+pub fn foreign_record(random: &mut Random, states: u32) -> Record {
     let kind = if random.once_in(20) { random.below(7) } else { random.between(1, 4) } as u32;
     let kind = if random.once_in(5) { 0 } else { kind };
     let damaged = usize::from(random.once_in(15));
@@ -180,7 +187,7 @@ pub fn foreign_record(random: &mut Random, states: u32) -> [u32; RECORD_WORDS] {
     let mut next =
         || if random.once_in(40) { states } else { random.below(states as usize) as u32 };
     let ways = [next(), next(), next()];
-    [kind, field, mask, value, ways[0], ways[1], ways[2], random.word(), random.word()]
+    record([kind, field, mask, value], ways, random.set(), random.set())
 }
 
 /// Frames whose fields are at or beside the values of a record's question, as far as that goes.
@@ -226,7 +233,7 @@ fn any_words(coverage: &mut Coverage) {
 
 fn circle(coverage: &mut Coverage) {
     // Every way leads back, so that each question is asked again.
-    let table = [4, 13, 0, 0, 0, 0, 0, 3, 5];
+    let table = record([4, 13, 0, 0], [0; 3], 3, 5);
     let frame = Frame { bytes: Vec::new(), port: 9 };
     for allowance in [0, 1, 2, 1000, 1_000_000] {
         let answer = classify_noted(&frame, &table, 1, allowance, coverage);

@@ -113,7 +113,8 @@ fn gateways(coverage: &mut Coverage) {
     let frame = echo_request(1);
     for end in ENDS {
         let at = library().at(end);
-        for (verdicts, room) in [(32, 33), (31, 33), (33, 33), (0, 33), (32, 32), (32, 34), (32, 0)]
+        for (verdicts, room) in
+            [(64, 65), (63, 65), (65, 65), (0, 65), (64, 64), (64, 66), (64, 0), (32, 33)]
         {
             let verdicts = vec![DROP; verdicts];
             let by = Setting { table: &table, states: 10, verdicts: &verdicts, standing: PASS };

@@ -225,7 +225,7 @@ fn one_test(coverage: &mut Coverage) {
 
 fn one_test_cases(cases: &[([u32; 4], u32)], coverage: &mut Coverage) {
     for (test, refusal) in cases {
-        for before in [0, 1, 5, 31] {
+        for before in [0, 1, 5, 31, 32, 63] {
             let list = [empty_filters(before), vec![1, 1, 1], test.to_vec()].concat();
             let built = build_in_slots(&list, SLOTS, coverage).built;
             assert_eq!((built.refusal, built.number), (*refusal, before as u32), "{list:?}");
@@ -234,7 +234,7 @@ fn one_test_cases(cases: &[([u32; 4], u32)], coverage: &mut Coverage) {
 }
 
 fn cut_lists(coverage: &mut Coverage) {
-    let mut lists = vec![sound_list(MOST_FILTERS, 8), sound_list(5, 3), sound_list(32, 0)];
+    let mut lists = vec![sound_list(MOST_FILTERS, 8), sound_list(5, 3), sound_list(64, 0)];
     for case in 0..40 {
         lists.push(lists::list(&mut Random::case(SEED, case), Style::Wild));
     }

@@ -3,7 +3,7 @@
 
 use std::fs;
 
-use filterbox_tests::builder::records;
+use filterbox_tests::builder::{record, records, Record};
 use filterbox_tests::cases::GATEWAY_RUNS;
 use filterbox_tests::coverage::Coverage;
 use filterbox_tests::demands::describe;
@@ -17,7 +17,9 @@ use filterbox_tests::lists::{list, style};
 use filterbox_tests::random::Random;
 use filterbox_tests::rules::{read_list, words, Filter};
 use filterbox_tests::runner::Runner;
-use filterbox_tests::sizes::{Set, MOST_FILTERS, MOST_FRAME, OUT_AT, RECORD_WORDS, SURE_AT};
+use filterbox_tests::sizes::{
+    put_set, set_at, Set, MOST_FILTERS, MOST_FRAME, RECORD_WORDS, SURE_AT,
+};
 use filterbox_tests::tools::root;
 
 use crate::damage::{foreign_record, frames_for};
@@ -36,7 +38,7 @@ pub fn run(runner: &mut Runner, coverage: &mut Coverage) {
     runner.check("refusals_of_a_gateway_in_their_order", || orders(coverage));
     runner.check("verdict_tables_and_rooms_of_each_length", || lengths(coverage));
     runner.check("verdicts_of_each_number_at_each_place", || numbers(coverage));
-    runner.check("walks_of_256_questions_and_more", || long_walks(coverage));
+    runner.check("walks_of_512_questions_and_more", || long_walks(coverage));
     runner.check("foreign_tables_judged", || foreign_tables(coverage));
     runner.check("clearing_rooms_of_each_length", clearings);
 }
@@ -92,11 +94,8 @@ fn sum(tallies: &[u32]) -> u64 {
 }
 
 /// A record without a question, with such a sure set.
-fn final_record(sure: Set) -> [u32; RECORD_WORDS] {
-    let mut record = [0; RECORD_WORDS];
-    record[SURE_AT] = sure;
-    record[OUT_AT] = !sure;
-    record
+fn final_record(sure: Set) -> Record {
+    record([0; 4], [0; 3], sure, !sure)
 }
 
 fn nothing() -> Frame {
@@ -163,7 +162,7 @@ pub fn some_verdicts(random: &mut Random) -> [u32; MOST_FILTERS] {
 /// verdict must be; after each event the tallies add up to the frames judged since the clearing.
 fn runs(coverage: &mut Coverage) {
     let mut judged_in_all = 0;
-    let mut givers = 0u64;
+    let mut givers = 0u128;
     for case in 0..GATEWAY_RUNS.count() {
         let random = &mut Random::case(SEED, case as u64);
         let (filters, table, states) = built(random, case);
@@ -227,7 +226,7 @@ fn ends_of_tallies(coverage: &mut Coverage) {
     let verdicts: Vec<u32> = (0..MOST_FILTERS as u32).map(|i| i % 3).collect();
     for place in 0..TALLIES {
         // The lowest filter of a set gives the verdict, whatever stands above it.
-        for above in [0, u32::MAX, 0xAAAA_AAAA] {
+        for above in [0, Set::MAX, 0xAAAA_AAAA_AAAA_AAAA] {
             let sure = if place == MOST_FILTERS { 0 } else { 1 << place | above << place };
             let table = final_record(sure);
             let by = Setting { table: &table, states: 1, verdicts: &verdicts, standing: DIVERT };
@@ -254,7 +253,8 @@ fn ends_of_tallies(coverage: &mut Coverage) {
 /// Any of the five refusals at once, each in several ways: the first of their order is answered, and
 /// no tally changes.
 fn orders(coverage: &mut Coverage) {
-    let (sound, circle) = (final_record(4), [4, 13, 0, 0, 0, 0, 0, 4, 0]);
+    let (sound, circle) = (final_record(4), record([4, 13, 0, 0], [0; 3], 4, 0));
+    let damaged = record([5, 0, 0, 0], [0; 3], 4, 0);
     let (good, longer) = ([DROP; MOST_FILTERS], [DROP; MOST_FILTERS + 1]);
     let mut strange = good;
     strange[MOST_FILTERS - 1] = 3;
@@ -263,7 +263,7 @@ fn orders(coverage: &mut Coverage) {
     for faults in 0..32u32 {
         let faulty = |i: u32| faults >> i & 1 == 1;
         for way in 0..4 {
-            let room = if faulty(0) { [TALLIES - 1, TALLIES + 1, 0, 66][way] } else { TALLIES };
+            let room = if faulty(0) { [TALLIES - 1, TALLIES + 1, 0, 33][way] } else { TALLIES };
             let (verdicts, standing) = match (faulty(1), way) {
                 (false, _) => (&good[..], DROP),
                 (true, 0) => (&strange[..], DROP),
@@ -277,7 +277,7 @@ fn orders(coverage: &mut Coverage) {
                 (true, 0) => (&circle, 1),
                 (true, 1) => (&sound, 0),
                 (true, 2) => (&sound, 2),
-                (true, _) => (&[5, 0, 0, 0, 0, 0, 0, 4, 0], 1),
+                (true, _) => (&damaged, 1),
             };
             let by = Setting { table, states, verdicts, standing };
             let mut tallies = vec![if faulty(4) { FULL } else { 6 }; room];
@@ -297,8 +297,8 @@ fn lengths(coverage: &mut Coverage) {
         for room in 0..=70 {
             let by = Setting { table: &table, states: 1, verdicts: &verdicts, standing: DROP };
             let should = match (room, verdicts.len()) {
-                (33, 32) => verdict(DROP),
-                (33, _) => refused(16),
+                (65, 64) => verdict(DROP),
+                (65, _) => refused(16),
                 _ => refused(24),
             };
             assert_eq!(judge(&nothing(), &by, &mut vec![9; room], coverage), should);
@@ -310,8 +310,8 @@ fn lengths(coverage: &mut Coverage) {
 fn numbers(coverage: &mut Coverage) {
     for place in 0..=MOST_FILTERS {
         for number in [0, 1, 2, 3, 4, 255, 0x8000_0000, u32::MAX] {
-            for giver in [0, 7, MOST_FILTERS - 1, MOST_FILTERS] {
-                let table = final_record(1u32.checked_shl(giver as u32).unwrap_or(0));
+            for giver in [0, 7, 31, 32, MOST_FILTERS - 1, MOST_FILTERS] {
+                let table = final_record(Set::checked_shl(1, giver as u32).unwrap_or(0));
                 let mut verdicts = [PASS; MOST_FILTERS];
                 let mut standing = PASS;
                 *verdicts.get_mut(place).unwrap_or(&mut standing) = number;
@@ -327,11 +327,11 @@ fn numbers(coverage: &mut Coverage) {
     }
 }
 
-/// Questions in a row with a final record behind them: 256 are allowed, and no more. And a circle.
+/// Questions in a row with a final record behind them: 512 are allowed, and no more. And a circle.
 fn long_walks(coverage: &mut Coverage) {
     let verdicts = [DIVERT; MOST_FILTERS];
-    for questions in [0, 1, 255, 256, 257, 300] {
-        let asks = |n: u32| [4, 13, 0, 0, n + 1, n, n, 1, 0];
+    for questions in [0, 1, 256, 257, 511, 512, 513, 600] {
+        let asks = |n: u32| record([4, 13, 0, 0], [n + 1, n, n], 1, 0);
         let mut table: Vec<u32> = (0..questions).flat_map(asks).collect();
         table.extend(final_record(1));
         let by =
@@ -341,8 +341,8 @@ fn long_walks(coverage: &mut Coverage) {
         assert_eq!(judge(&nothing(), &by, &mut tallies, coverage), should);
         assert_eq!(tallies[0], u32::from(questions <= ALLOWANCE));
     }
-    for sure in [0, 1, 0x8000_0000, u32::MAX] {
-        let circle = [4, 13, 0, 0, 0, 0, 0, sure, 0];
+    for sure in [0, 1, 1 << 31, 1 << 32, 1 << 63, Set::MAX] {
+        let circle = record([4, 13, 0, 0], [0; 3], sure, 0);
         let by = Setting { table: &circle, states: 1, verdicts: &verdicts, standing: PASS };
         for tally in [0, FULL] {
             assert_eq!(judge(&nothing(), &by, &mut [tally; TALLIES], coverage), refused(13));
@@ -359,8 +359,8 @@ fn foreign_tables(coverage: &mut Coverage) {
         let mut record = |_| {
             let mut record = foreign_record(random, states);
             // Sets with few filters, so that each is the lowest at times.
-            record[SURE_AT] &= u32::MAX << random.below(32);
-            record[SURE_AT] *= u32::from(!random.once_in(6));
+            let few = set_at(&record, SURE_AT) & Set::MAX << random.below(MOST_FILTERS);
+            put_set(&mut record, SURE_AT, if random.once_in(6) { 0 } else { few });
             record
         };
         let table: Vec<u32> = (0..states).flat_map(&mut record).collect();

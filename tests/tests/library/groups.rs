@@ -11,6 +11,7 @@ use filterbox_tests::random::Random;
 use filterbox_tests::rules::{read_list, tests, words, Filter, EQUAL, ON_ITS_OWN};
 use filterbox_tests::runner::Runner;
 use filterbox_tests::scanner::filter_holds;
+use filterbox_tests::sizes::Set;
 use filterbox_tests::walker::DONE;
 
 use crate::support::{build_in_slots, check_frame, classify_noted, Outcome};
@@ -35,7 +36,7 @@ fn compiled(filters: &[Filter], coverage: &mut Coverage) -> Option<Outcome> {
 }
 
 /// The sure set of a frame once all is asked.
-fn match_set(filters: &[Filter], frame: &Frame, built: &Outcome, coverage: &mut Coverage) -> u32 {
+fn match_set(filters: &[Filter], frame: &Frame, built: &Outcome, coverage: &mut Coverage) -> Set {
     check_frame(filters, frame, built, coverage);
     let all = tests(filters) as u32;
     let answer = classify_noted(frame, &built.table, built.states(), all, coverage);
@@ -44,7 +45,7 @@ fn match_set(filters: &[Filter], frame: &Frame, built: &Outcome, coverage: &mut 
 }
 
 /// The match set of one frame by a list of few states.
-fn matched(filters: &[Filter], frame: &Frame, coverage: &mut Coverage) -> u32 {
+fn matched(filters: &[Filter], frame: &Frame, coverage: &mut Coverage) -> Set {
     let built = compiled(filters, coverage).expect("few states");
     match_set(filters, frame, &built, coverage)
 }
@@ -56,7 +57,7 @@ fn holding(filters: &[Filter], group: impl Fn(u32) -> bool, frame: &Frame) -> Ve
     (0..filters.len()).filter(holds).collect()
 }
 
-fn set(numbers: &[usize]) -> u32 {
+fn set(numbers: &[usize]) -> Set {
     numbers.iter().fold(0, |set, i| set | 1 << i)
 }
 
@@ -103,7 +104,7 @@ fn random_lists(salt: u64, mut check: impl FnMut(&mut Random, Vec<Filter>)) {
 }
 
 /// Some frames towards a list, each with its match set; none where the list has too many states.
-fn frames(random: &mut Random, filters: &[Filter], coverage: &mut Coverage) -> Vec<(Frame, u32)> {
+fn frames(random: &mut Random, filters: &[Filter], coverage: &mut Coverage) -> Vec<(Frame, Set)> {
     let Some(built) = compiled(filters, coverage) else { return Vec::new() };
     let mut found = |_| {
         let frame = towards(random, filters);

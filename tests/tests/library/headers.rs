@@ -1,6 +1,7 @@
 //! The header fields as the library reads them, brought to light by tables: one tells which fields
 //! are present, another shows a field's bits one by one.
 
+use filterbox_tests::builder::RECORD_WORDS;
 use filterbox_tests::coverage::Coverage;
 use filterbox_tests::examples::{test, ECHO};
 use filterbox_tests::fields::{read, Readings, FIELDS, ICMP, IPV4, TCP, UDP, WIDTHS};
@@ -85,7 +86,7 @@ impl Lamps {
     fn sure(&self, frame: &Frame, built: &Outcome, coverage: &mut Coverage) -> u32 {
         let answer = classify_noted(frame, &built.table, built.states(), u32::MAX, coverage);
         assert_eq!(answer.ended, DONE);
-        answer.sure
+        answer.sure as u32
     }
 
     fn check(&self, name: &str, frame: &Frame, coverage: &mut Coverage) -> Readings {
@@ -151,7 +152,7 @@ fn long_frames(coverage: &mut Coverage) {
             // 12 comes before 13.
             let answer = classify_noted(&frame, &built.table, 0, allowance, coverage);
             assert_eq!(answer.refusal, if length > MOST_FRAME { 12 } else { 13 });
-            let answer = classify_noted(&frame, &[9; 9], 1, allowance, coverage);
+            let answer = classify_noted(&frame, &[9; RECORD_WORDS], 1, allowance, coverage);
             assert_eq!(answer.refusal, if length > MOST_FRAME { 12 } else { 13 });
         }
     }

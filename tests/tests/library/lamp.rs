@@ -2,7 +2,7 @@
 //! with another order of questions. Built tables of random lists are asked in `support::check_frame`.
 
 use filterbox_tests::brute::path;
-use filterbox_tests::builder::{records, records_by, Pick, State, RECORD_WORDS};
+use filterbox_tests::builder::{record, records, records_by, Pick, Record, State, RECORD_WORDS};
 use filterbox_tests::coverage::Coverage;
 use filterbox_tests::examples::{ECHO, ECHO_RECORDS};
 use filterbox_tests::fields::read;
@@ -13,6 +13,7 @@ use filterbox_tests::random::Random;
 use filterbox_tests::rules::{words, Filter, Test, AT_LEAST, AT_MOST};
 use filterbox_tests::runner::Runner;
 use filterbox_tests::scanner::match_set;
+use filterbox_tests::sizes::{Set, MOST_FILTERS, MOST_TESTS};
 use filterbox_tests::walker::MOST_FRAME;
 
 use crate::support::lamp;
@@ -67,8 +68,8 @@ fn example() {
         assert_eq!(lamp(&ECHO, &frame, &table, 10), should, "{frame:?}");
     }
     // An empty list matches nothing, a filter without tests everything; both ask nothing.
-    assert_eq!(lamp(&[], &nothing(), &[0; 9], 1), shows(0, 0));
-    assert_eq!(lamp(&[1, 0, 0], &nothing(), &[0; 9], 1), shows(1, 0));
+    assert_eq!(lamp(&[], &nothing(), &[0; RECORD_WORDS], 1), shows(0, 0));
+    assert_eq!(lamp(&[1, 0, 0], &nothing(), &[0; RECORD_WORDS], 1), shows(1, 0));
 }
 
 fn order() {
@@ -86,7 +87,7 @@ fn order() {
     for states in [0, 11, 4097, u32::MAX] {
         assert_eq!(lamp(&ECHO, &longest, &table, states), REFUSED, "{states} states");
     }
-    assert_eq!(lamp(&ECHO, &longest, &table[..89], 10), REFUSED);
+    assert_eq!(lamp(&ECHO, &longest, &table[..109], 10), REFUSED);
     assert_eq!(lamp(&ECHO, &longest, &table, 10), shows(0, 2));
     // A next number counts only where its way is taken.
     for states in 1..10 {
@@ -99,7 +100,7 @@ fn checked_first() {
     let frame = nothing();
     // Filter 0 is held at the start, and filter 1 still has a test to ask: record 0 must ask it.
     let list = [1, 0, 0, 2, 0, 1, 1, 13, 255, 7];
-    let asks = [1, 13, 255, 7, 9, 9, 9, 0, 0];
+    let asks = record([1, 13, 255, 7], [9; 3], 0, 0);
     assert_eq!(lamp(&list, &frame, &asks, 1), shows(1, 0));
     for at in 0..4 {
         let mut other = asks;
@@ -108,18 +109,20 @@ fn checked_first() {
     }
     // Where nothing is left to ask the record must be final, even if the lamp is lit.
     for (list, lit) in [(&[][..], 0), (&[1, 0, 0][..], 1)] {
-        assert_eq!(lamp(list, &frame, &[0, 99, 7, 7, 99, 99, 99, 1, 2], 1), shows(lit, 0));
+        let ends = record([0, 99, 7, 7], [99; 3], 1, 2);
+        assert_eq!(lamp(list, &frame, &ends, 1), shows(lit, 0));
         assert_eq!(lamp(list, &frame, &asks, 1), REFUSED);
-        assert_eq!(lamp(list, &frame, &[5, 0, 0, 0, 0, 0, 0, 0, 0], 1), REFUSED);
+        let damaged = record([5, 0, 0, 0], [0; 3], 0, 0);
+        assert_eq!(lamp(list, &frame, &damaged, 1), REFUSED);
     }
 }
 
 fn masks() {
     for kind in [AT_MOST, AT_LEAST] {
         let list = [1, 0, 1, kind, 13, 0, 7];
-        let ends = [[0; RECORD_WORDS], [0; RECORD_WORDS]].concat();
+        let end = [0; RECORD_WORDS];
         for mask in [0, 1, 255, u32::MAX] {
-            let table = [&[kind, 13, mask, 7, 1, 2, 2, 0, 0][..], &ends[..]].concat();
+            let table = [record([kind, 13, mask, 7], [1, 2, 2], 0, 0), end, end].concat();
             let should = if mask == 0 { shows(1, 1) } else { REFUSED };
             assert_eq!(lamp(&list, &Frame { bytes: Vec::new(), port: 7 }, &table, 3), should);
         }
@@ -171,7 +174,7 @@ fn some_list(random: &mut Random, style: Style) -> Option<(Vec<Filter>, Frame)> 
 }
 
 /// The sure set of a frame's path after so many questions.
-fn sure_after(filters: &[Filter], frame: &Frame, asked: u32) -> u32 {
+fn sure_after(filters: &[Filter], frame: &Frame, asked: u32) -> Set {
     path(filters, &read(&frame.bytes, frame.port))[asked as usize].sure
 }
 
@@ -254,7 +257,7 @@ fn other_orders(coverage: &mut Coverage) {
 }
 
 /// The questions that a table asks of a frame, one after the other.
-fn questions(table: &[[u32; RECORD_WORDS]], filters: &[Filter], frame: &Frame) -> Vec<Test> {
+fn questions(table: &[Record], filters: &[Filter], frame: &Frame) -> Vec<Test> {
     let readings = read(&frame.bytes, frame.port);
     let mut asked = Vec::new();
     let mut number = 0;
@@ -267,7 +270,7 @@ fn questions(table: &[[u32; RECORD_WORDS]], filters: &[Filter], frame: &Frame) -
             Some(x) if test.of(x) => holds,
             Some(_) => fails,
         } as usize;
-        assert!(asked.len() <= 256, "{filters:?}");
+        assert!(asked.len() <= MOST_FILTERS * MOST_TESTS as usize, "{filters:?}");
     }
     asked
 }

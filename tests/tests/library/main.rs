@@ -9,6 +9,7 @@ mod edges;
 mod faults;
 mod gateway;
 mod groups;
+mod halves;
 mod headers;
 mod lamp;
 mod numbers;
@@ -31,6 +32,7 @@ fn main() {
     let mut coverage = Coverage::default();
     numbers::run(&mut runner, &mut coverage);
     groups::run(&mut runner, &mut coverage);
+    halves::run(&mut runner, &mut coverage);
     faults::run(&mut runner, &mut coverage);
     headers::run(&mut runner, &mut coverage);
     cuts::run(&mut runner, &mut coverage);

@@ -1,6 +1,8 @@
 //! Document 01's "Numbers to try", and lists whose states can be counted by hand.
 
-use filterbox_tests::builder::{MOST_SCRATCH_WORDS, MOST_SLOTS, RECORD_WORDS};
+use std::thread;
+
+use filterbox_tests::builder::{Built, MOST_SCRATCH_WORDS, MOST_SLOTS, RECORD_WORDS};
 use filterbox_tests::coverage::Coverage;
 use filterbox_tests::examples::{
     behind_impossible, deepest, echo_in_one_group, empty_filters, ends_of_the_range, one_bit_tests,
@@ -11,6 +13,7 @@ use filterbox_tests::frames::{compose, echo_request, hand_made, Frame, Layout};
 use filterbox_tests::library::library;
 use filterbox_tests::rules::{read_list, words, Filter};
 use filterbox_tests::runner::Runner;
+use filterbox_tests::sizes::{set_at, BUILD_STACK, OUT_AT, SURE_AT};
 use filterbox_tests::walker::{Answer, DONE, STOPPED};
 
 use crate::support::{build, build_in_slots, check_frame, classify_noted};
@@ -18,11 +21,11 @@ use crate::support::{build, build_in_slots, check_frame, classify_noted};
 pub fn run(runner: &mut Runner, coverage: &mut Coverage) {
     runner.check("scratch_words_are_as_published", scratch_words);
     runner.check("the_example_has_its_ten_records", || ten_records(coverage));
-    runner.check("89_words_are_refused_and_90_built", || words_89_and_90(coverage));
+    runner.check("109_words_are_refused_and_110_built", || words_109_and_110(coverage));
     runner.check("the_echo_request_at_each_allowance", || echo_allowances(coverage));
     runner.check("the_example_in_one_group", || one_group(coverage));
     runner.check("an_empty_list_has_one_state", || empty_list(coverage));
-    runner.check("32_filters_pass_and_33_give_1", || filters_32_and_33(coverage));
+    runner.check("64_filters_pass_and_65_give_1", || filters_64_and_65(coverage));
     runner.check("residues_stand_in_the_table", || residues(coverage));
     runner.check("remaining_tests_count_without_places", || {
         let built = build_in_slots(&WITHOUT_PLACES, 20, coverage);
@@ -32,12 +35,13 @@ pub fn run(runner: &mut Runner, coverage: &mut Coverage) {
     runner.check("4096_states_are_built_and_4097_refused", || most_states(coverage));
     runner.check("a_table_has_at_most_4096_slots", || beyond_the_slots(coverage));
     runner.check("the_deepest_list", || deepest_list(coverage));
+    runner.check("the_deepest_list_on_the_published_stack", published_stack);
     runner.check("ranges_at_the_ends_of_each_field", || ends_of_ranges(coverage));
 }
 
 fn scratch_words() {
     assert!(library().scratch_words() <= MOST_SCRATCH_WORDS);
-    assert_eq!(library().scratch_words(), 1024, "the number that docs/ publishes");
+    assert_eq!(library().scratch_words(), 2048, "the number that docs/ publishes");
 }
 
 fn ten_records(coverage: &mut Coverage) {
@@ -48,12 +52,12 @@ fn ten_records(coverage: &mut Coverage) {
     }
 }
 
-fn words_89_and_90(coverage: &mut Coverage) {
+fn words_109_and_110(coverage: &mut Coverage) {
     let scratch = 10 * library().scratch_words();
-    let small = build(&ECHO, 89, scratch, coverage);
+    let small = build(&ECHO, 109, scratch, coverage);
     assert_eq!((small.built.refusal, small.built.number), (11, 0));
-    assert_eq!(small.table[..81], [0; 81]);
-    let enough = build(&ECHO, 90, scratch, coverage);
+    assert_eq!(small.table[..99], [0; 99]);
+    let enough = build(&ECHO, 110, scratch, coverage);
     assert_eq!((enough.built.refusal, enough.built.number), (0, 10));
     assert_eq!(enough.table, ECHO_RECORDS.concat());
 }
@@ -93,15 +97,19 @@ fn empty_list(coverage: &mut Coverage) {
     assert_eq!(answer, Answer { ended: DONE, refusal: 0, sure: 0, out: 0, asked: 0, cut: 0 });
 }
 
-fn filters_32_and_33(coverage: &mut Coverage) {
-    let built = build_in_slots(&empty_filters(32), 2, coverage);
-    assert_eq!(built.states(), 1);
-    assert_eq!(built.table[7..9], [u32::MAX, 0]);
-    let refused = build_in_slots(&empty_filters(33), 2, coverage);
-    assert_eq!((refused.built.refusal, refused.built.number), (1, 32));
-    let one_word = [empty_filters(32), vec![0]].concat();
+fn filters_64_and_65(coverage: &mut Coverage) {
+    for (filters, sure) in
+        [(31, [u32::MAX >> 1, 0]), (32, [u32::MAX, 0]), (33, [u32::MAX, 1]), (64, [u32::MAX; 2])]
+    {
+        let built = build_in_slots(&empty_filters(filters), 2, coverage);
+        assert_eq!(built.states(), 1);
+        assert_eq!(built.table[7..11], [sure[0], sure[1], 0, 0], "{filters} filters");
+    }
+    let refused = build_in_slots(&empty_filters(65), 2, coverage);
+    assert_eq!((refused.built.refusal, refused.built.number), (1, 64));
+    let one_word = [empty_filters(64), vec![0]].concat();
     let refused = build_in_slots(&one_word, 2, coverage);
-    assert_eq!((refused.built.refusal, refused.built.number), (1, 32));
+    assert_eq!((refused.built.refusal, refused.built.number), (1, 64));
 }
 
 /// A list that asks the fact first and then, in another group, the test: what is left of the test
@@ -120,7 +128,7 @@ fn residues(coverage: &mut Coverage) {
 
 fn check_residue(case: &ResidueCase, record: &[u32]) {
     let text = format!("{:?} given {:?}: {record:?}", case.test, case.fact);
-    let sets = (record[7], record[8]);
+    let sets = (set_at(record, SURE_AT), set_at(record, OUT_AT));
     let mut asks = case.test;
     match case.left {
         LeftOver::True => return assert!(record[0] == 0 && sets == (3, 0), "{text}"),
@@ -175,15 +183,26 @@ fn beyond_the_slots(coverage: &mut Coverage) {
 
 fn deepest_list(coverage: &mut Coverage) {
     let filters = deepest();
-    let built = build_in_slots(&words(&filters), 400, coverage);
-    assert_eq!(built.states(), 320);
-    for port in [60_000, 0, 7, 8, 100, 255] {
+    let built = build_in_slots(&words(&filters), 700, coverage);
+    assert_eq!(built.states(), 640);
+    for port in [60_000, 0, 7, 8, 100, 255, 256, 511] {
         let mut wishes = [None; FIELDS];
         wishes[9] = Some(port);
         let frame = compose(&wishes, &Layout::plain(20));
         check_frame(&filters, &frame, &built, coverage);
     }
     check_frame(&filters, &Frame { bytes: Vec::new(), port: 0 }, &built, coverage);
+}
+
+/// On a thread that has no more stack than the header asks. A build that takes more ends the run.
+fn published_stack() {
+    let build = || {
+        let mut table = vec![0; 640 * RECORD_WORDS];
+        let mut scratch = vec![0; 640 * library().scratch_words()];
+        library().build(&words(&deepest()), &mut table, &mut scratch)
+    };
+    let thread = thread::Builder::new().stack_size(BUILD_STACK).spawn(build).expect("a thread");
+    assert_eq!(thread.join().expect("no panic"), Built { refusal: 0, number: 640 });
 }
 
 fn ends_of_ranges(coverage: &mut Coverage) {

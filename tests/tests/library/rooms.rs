@@ -75,6 +75,6 @@ fn every_table(coverage: &mut Coverage) {
     let scratch = 30 * library().scratch_words();
     for table in 0..=200 {
         let built = build(&ECHO, table, scratch, coverage).built;
-        assert_eq!(built.refusal, if table < 90 { 11 } else { 0 }, "{table} words");
+        assert_eq!(built.refusal, if table < 110 { 11 } else { 0 }, "{table} words");
     }
 }

@@ -45,7 +45,7 @@ fn equal_records(coverage: &mut Coverage) {
     }
 }
 
-/// Lists of up to 32 filters of which one alone is asked for, with empty filters around it.
+/// Lists of up to 64 filters of which one alone is asked for, with empty filters around it.
 fn one_filter(coverage: &mut Coverage) {
     for count in 2..=MOST_FILTERS {
         for asked in [0, count / 2, count - 1] {

@@ -1,4 +1,4 @@
--- `lists_cases::show_ranks` is safe and ends: `rank_sets` leaves 32 sets, which are lent on.
+-- `lists_cases::show_ranks` is safe and ends: `rank_sets` leaves a set for each filter that a list may have, and they are lent on.
 -- Assumes nothing.
 use mathlib.Core.Path.{sym, ap, _∙_}
 use lib.ListN.{length}

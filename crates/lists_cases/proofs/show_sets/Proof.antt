@@ -1,6 +1,5 @@
 -- `lists_cases::show_sets` is safe and ends: the sets left fall.
 -- Assumes nothing.
-use native.Mathlib.Omega.{arith}
 use Prim.Native.Nat.{_-_, _≤_}
 use borrow.Author.Needs.{needs}
 use Rattle.lists_cases.proofs.show_sets.Statement.{statement}
@@ -20,9 +19,6 @@ mul-print-decimal c = search needs
 
 shared-slice-read-print-decimal : tie.Need-shared-slice-read-print-decimal Inv-loop μ-loop
 shared-slice-read-print-decimal c = search needs
-
-cast-print-decimal : tie.Need-cast-print-decimal Inv-loop μ-loop
-cast-print-decimal c = omega (arith, c .shared-slice-known2 .given (c .before .before .before .loop .i))
 
 print-decimal-requires : tie.Need-print-decimal-requires Inv-loop μ-loop
 print-decimal-requires c κs = search needs
@@ -54,7 +50,6 @@ show-sets-spec =
     loop-holds
     mul-print-decimal
     shared-slice-read-print-decimal
-    cast-print-decimal
     print-decimal-requires
     slice-aggregate-write-all
     write-all-requires

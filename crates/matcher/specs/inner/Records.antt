@@ -1,4 +1,4 @@
--- What the nine words of one record say, apart from the table.
+-- What the words of one record say, apart from the table.
 --   endsAt w l   the walk goes no further at such a record, with l questions left: it is final, damaged, or the allowance is used
 --   meets c s      two sets have a field in common
 --   foundIn w k b  what such a record shows, with k questions asked, of which some met a cut field where b says so

@@ -7,7 +7,7 @@ use borrow.Author.Needs.{needs}
 use lib.Bits.{bitOr, or-shifted-r}
 use lib.Dec.{lit<}
 use lib.Pow.{shl-exact}
-use Rattle.sets.specs.inner.Width.{setBits}
+use Rattle.sets.specs.Sets.{setBits}
 use Rattle.sets.proofs.put.Statement.{statement}
 use Rattle.sets.proofs.put.Tie as tie
 

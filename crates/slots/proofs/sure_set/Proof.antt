@@ -17,9 +17,6 @@ Inv-loop w n ranks out set₀ i₀ set i = (i ≤ n) × (set ≡ setOf (tally i 
 abbrev μ-loop : tie.MeasureT-loop
 μ-loop w n ranks out set₀ i₀ set i = n - i
 
-out-set-requires : tie.Need-out-set-requires Inv-loop μ-loop
-out-set-requires c κs = search needs
-
 loop-holds : tie.Need-loop-holds Inv-loop μ-loop
 unfolding setOf tally
 loop-holds c = (omega arith, refl)
@@ -44,10 +41,9 @@ cast-put c = search needs
 
 put-requires : tie.Need-put-requires Inv-loop μ-loop
 put-requires c κs =
-    let l = c .before .before .before .loop in
-    let o = c .before .before .before .before in
-    let a = o .before .before .before .args in
-    (omega arith, put-bound (sureAt (a .ranks .now) (o .out-set .result) (a .w .now)) (l .i) (l .set) (l .inv .1))
+    let l = c .before .before .before in
+    let a = l .before .before .before .args in
+    (omega arith, put-bound (sureAt (a .ranks .now) (a .out) (a .w .now)) (l .loop .i) (l .loop .set) (l .loop .inv .1))
 
 add-i : tie.Need-add-i Inv-loop μ-loop
 add-i c = search needs
@@ -58,19 +54,18 @@ loop-less c = search needs
 loop-again : tie.Need-loop-again Inv-loop μ-loop
 loop-again c =
     let l = c .before .before .before .before in
-    let o = l .before in
-    let s = o .before .before .before in
+    let s = l .before .before .before in
     let a = s .args in
-    (omega arith, sure-turn (a .ranks .now) (o .out-set .result) (a .w .now) (l .loop .i) (l .loop .set) (c .put .result) (c .before .shared-slice-known4 .given (l .loop .i) .fits) (out-bound (a .n) (a .w .now) (o .out-set .result) (s .pre .few) (o .out-set .ensures)) (l .loop .inv .1) (c .put .ensures))
+    (omega arith, sure-turn (a .ranks .now) (a .out) (a .w .now) (l .loop .i) (l .loop .set) (c .put .result) (c .before .shared-slice-known4 .given (l .loop .i) .fits) (out-bound (a .n) (a .w .now) (a .out) (s .pre .0 .few) (s .pre .1)) (l .loop .inv .1) (c .put .ensures))
 
 returns : tie.Need-returns Inv-loop μ-loop
 unfolding sureSetIn
 returns c =
-    let l = c .before .loop in
-    let o = c .before .before in
-    let a = o .before .before .before .args in
-    let e : l .i ≡ a .n = omega arith in
-    l .inv .1 ∙ ap (λ i. setOf (tally i (sureAt (a .ranks .now) (o .out-set .result) (a .w .now)))) e ∙ ap (λ x. setOf (tally (a .n) (sureAt (a .ranks .now) x (a .w .now)))) (o .out-set .ensures)
+    let l = c .before in
+    let s = l .before .before .before in
+    let a = s .args in
+    let e : l .loop .i ≡ a .n = omega arith in
+    l .loop .inv .1 ∙ ap (λ i. setOf (tally i (sureAt (a .ranks .now) (a .out) (a .w .now)))) e ∙ ap (λ x. setOf (tally (a .n) (sureAt (a .ranks .now) x (a .w .now)))) (s .pre .1)
 
 pub sure-set-spec : {M : Type 1} → statement M
 sure-set-spec =
@@ -78,7 +73,6 @@ sure-set-spec =
     (tie.spec
     Inv-loop
     μ-loop
-    out-set-requires
     loop-holds
     mul-sure
     mul-sure-2

@@ -1,9 +1,9 @@
 -- `tables::agrees` meets its contract. The tests are those of `agree`, in its order.
 -- Assumes nothing.
 use Prim.Native.Nat.{ℕ, _+_, _*_, _-_}
-use mathlib.Core.Path.{_≡_, ap, _∙_}
+use mathlib.Core.Path.{_≡_, refl, ap, _∙_}
 use mathlib.Core.Bool.{Bool, false, _&&_}
-use mathlib.Core.List.{List}
+use mathlib.Core.List.{List, [], _∷_}
 use lib.Dec.{eqb}
 use native.Mathlib.Omega.{arith}
 use lib.ListN.{getD, take, drop}
@@ -12,8 +12,9 @@ use borrow.Author.Tests.{eq-eqb, ne-eqb}
 use denote.Ref.{now}
 use Rattle.tables.specs.declared.Fresh.{Fresh}
 use Rattle.lists.specs.Filters.{kindAt, fieldAt, maskAt, valueAt}
-use Rattle.tables.specs.Tables.{recordWords, sureAt, outAt, asWords, recordWith, setAt}
+use Rattle.tables.specs.Tables.{recordWords, sureAt, outAt, recordWith, setAt}
 use Rattle.tables.specs.inner.Records.{freshRecord, freshBy, agree, recordAt}
+use Rattle.tables.specs.laws.Layout.{sure-in, out-in}
 use Rattle.tables.proofs.agrees.Statement.{statement}
 use Rattle.tables.proofs.agrees.Tie as tie
 
@@ -27,20 +28,29 @@ of-record n t f b e =
     let whole : recordWords * n + recordWords - recordWords * n ≡ recordWords = omega arith in
     e ∙ ap (λ (k : ℕ). agree (take k (drop (recordWords * n) t)) f) whole
 
+module _ (f : Fresh) where
+  fresh-out : setAt (λ j. getD (freshBy f) j 0) outAt ≡ f .out
+  unfolding freshBy freshRecord
+  fresh-out = out-in (f .kind ∷ f .field ∷ f .mask ∷ f .value ∷ []) (λ _. 0) (f .sure) (f .out) refl
+
+  fresh-sure : setAt (λ j. getD (freshBy f) j 0) sureAt ≡ f .sure
+  unfolding freshBy freshRecord
+  fresh-sure = sure-in (f .kind ∷ f .field ∷ f .mask ∷ f .value ∷ []) (λ _. 0) (f .sure) (f .out) refl
+
 module _ (w : List ℕ) (f : Fresh) (out : ℕ) (out-is : out ≡ setAt (λ j. getD w j 0) outAt) where
   other-out : (out ≡ f .out → ⊥) → false ≡ agree w (freshBy f)
-  unfolding agree freshBy freshRecord recordWith asWords setAt
-  other-out ne = rw (← out-is, ne-eqb out (f .out) ne)
+  unfolding agree
+  other-out ne = rw (fresh-out f, ← out-is, ne-eqb out (f .out) ne)
 
   module _ (same-out : out ≡ f .out) (sure : ℕ) (sure-is : sure ≡ setAt (λ j. getD w j 0) sureAt) where
     other-sure : (sure ≡ f .sure → ⊥) → false ≡ agree w (freshBy f)
-    unfolding agree freshBy freshRecord recordWith asWords setAt
-    other-sure ne = rw (← out-is, eq-eqb out (f .out) same-out, ← sure-is, ne-eqb sure (f .sure) ne)
+    unfolding agree
+    other-sure ne = rw (fresh-out f, ← out-is, eq-eqb out (f .out) same-out, fresh-sure f, ← sure-is, ne-eqb sure (f .sure) ne)
 
     same-sets : sure ≡ f .sure
         → (eqb (getD w kindAt 0) (f .kind) && eqb (getD w fieldAt 0) (f .field) && eqb (getD w maskAt 0) (f .mask) && eqb (getD w valueAt 0) (f .value)) ≡ agree w (freshBy f)
-    unfolding agree freshBy freshRecord recordWith asWords setAt
-    same-sets same-sure = rw (← out-is, eq-eqb out (f .out) same-out, ← sure-is, eq-eqb sure (f .sure) same-sure)
+    unfolding agree freshBy freshRecord recordWith
+    same-sets same-sure = rw (fresh-out f, ← out-is, eq-eqb out (f .out) same-out, fresh-sure f, ← sure-is, eq-eqb sure (f .sure) same-sure)
 
 mul-first : tie.Need-mul-first
 mul-first c = search needs

@@ -13,6 +13,7 @@ use mathlib.Core.List.{List, [], _∷_}
 use lib.Dec.{eqb}
 use lib.ListN.{getD, take, drop, set}
 use Rattle.residue.specs.declared.Outcome.{Outcome}
+use Rattle.sets.specs.Halves.{lowHalf, highHalf}
 use Rattle.lists.specs.Filters.{testWords, kindAt, fieldAt, maskAt, valueAt}
 use Rattle.tables.specs.declared.Fresh.{Fresh}
 use Rattle.tables.specs.Tables.{sureAt, outAt, recordWords, nextAt, setAt, recordWith, wordOf}
@@ -21,7 +22,7 @@ abbrev pub askWords : ℕ
 askWords = testWords
 
 unfoldable pub putSet : ℕ → ℕ → List ℕ → List ℕ
-putSet j s ws = set ws j s
+putSet j s ws = set (set ws j (lowHalf s)) (j + 1) (highHalf s)
 
 unfoldable pub freshRecord : List ℕ → ℕ → ℕ → List ℕ
 freshRecord q s o = recordWith q (λ _. 0) s o

@@ -20,11 +20,11 @@ use Rattle.tables.specs.Tables.{sureAt, outAt, nextAt, setAt}
 use Rattle.tables.specs.inner.Records.{agree, recordAt, agreeingFrom}
 
 pub agree-self : (r : List ℕ) → agree r r ≡ true
-unfolding agree setAt
+unfolding agree
 agree-self r =
     rw (
-      eq-eqb (getD r outAt 0) (getD r outAt 0) refl,
-      eq-eqb (getD r sureAt 0) (getD r sureAt 0) refl,
+      eq-eqb (setAt (λ j. getD r j 0) outAt) (setAt (λ j. getD r j 0) outAt) refl,
+      eq-eqb (setAt (λ j. getD r j 0) sureAt) (setAt (λ j. getD r j 0) sureAt) refl,
       eq-eqb (getD r kindAt 0) (getD r kindAt 0) refl,
       eq-eqb (getD r fieldAt 0) (getD r fieldAt 0) refl,
       eq-eqb (getD r maskAt 0) (getD r maskAt 0) refl,
@@ -38,14 +38,23 @@ next-between Holds = (lit< tt, lit< tt)
 next-between Fails = (lit< tt, lit< tt)
 next-between Absent = (lit< tt, lit< tt)
 
+-- A word before a set is none of the set's.
+set-kept : (k : ℕ) (v : ℕ) (r : List ℕ) (at : ℕ) → k < at → setAt (λ j. getD (set r k v) j 0) at ≡ setAt (λ j. getD r j 0) at
+unfolding setAt
+set-kept k v r at h =
+    rw (
+      getD-set-other r k at v 0 (λ (e : at ≡ k). omega arith),
+      getD-set-other r k (at + 1) v 0 (λ (e : at + 1 ≡ k). omega arith),
+    )
+
 pub agree-next : (o : Outcome) (v : ℕ) (r f : List ℕ) → agree (set r (nextAt o) v) f ≡ agree r f
-unfolding agree setAt
+unfolding agree
 agree-next o v r f =
     let low = next-between o .0 in
     let high = next-between o .1 in
     rw (
-      getD-set-other r (nextAt o) outAt v 0 (λ (e : outAt ≡ nextAt o). omega arith),
-      getD-set-other r (nextAt o) sureAt v 0 (λ (e : sureAt ≡ nextAt o). omega arith),
+      set-kept (nextAt o) v r outAt (omega arith),
+      set-kept (nextAt o) v r sureAt high,
       getD-set-other r (nextAt o) kindAt v 0 (λ (e : kindAt ≡ nextAt o). omega arith),
       getD-set-other r (nextAt o) fieldAt v 0 (λ (e : fieldAt ≡ nextAt o). omega arith),
       getD-set-other r (nextAt o) maskAt v 0 (λ (e : maskAt ≡ nextAt o). omega arith),

@@ -1,20 +1,24 @@
 -- What the words of a record say.
 --   next-within             the next numbers stand within a record
 --   record-long             a record is as long as its name says
+--   set-read                a set is read off its own words alone
+--   sure-in, out-in         the sets that its words say are those it is made of
 --   fresh-linked            a fresh record that got its three next numbers
 --   Spells t n q next s o   record n of the table t has the question's words q, the next numbers next, the sets s and o
 --   record-spells           so it does where its words are made of them
-use Prim.Native.Nat.{ℕ, _*_, _<_}
+use Prim.Native.Nat.{ℕ, _+_, _*_, _≤_, _<_}
 use native.Mathlib.Omega.{arith}
-use mathlib.Core.Path.{_≡_, refl, sym, ap, _∙_}
+use mathlib.Core.Path.{_≡_, refl, sym, ap, ap₂, _∙_}
 use mathlib.Core.List.{List, [], _∷_}
 use lib.Dec.{lit<}
 use lib.ListN.{length, getD, drop, set}
 use lib.Seq.{getD-take, getD-drop}
 use Rattle.residue.specs.declared.Outcome.{Outcome}
 use Rattle.residue.specs.declared.Outcome.the-variants.{Holds, Fails, Absent}
+use Rattle.sets.specs.Halves.{ofHalves}
+use Rattle.sets.specs.laws.Halves.{halves-whole}
 use Rattle.lists.specs.Filters.{kindAt, fieldAt, maskAt, valueAt}
-use Rattle.tables.specs.Tables.{recordWords, sureAt, outAt, nextAt, asWords, recordWith, wordOf, setAt, sureSetAt, outSetAt}
+use Rattle.tables.specs.Tables.{setWords, recordWords, sureAt, outAt, nextAt, asWords, recordWith, wordOf, setAt, sureSetAt, outSetAt}
 use Rattle.tables.specs.inner.Records.{askWords, freshRecord, recordAt, questionAt, wayAt}
 
 pub record Spells (t : List ℕ) (n : ℕ) (q : List ℕ) (next : Outcome → ℕ) (s o : ℕ) : Type 0 where
@@ -29,6 +33,10 @@ next-within Holds = lit< tt
 next-within Fails = lit< tt
 next-within Absent = lit< tt
 
+pub set-read : (w w' : ℕ → ℕ) (j n : ℕ) → ((i : ℕ) → i < n → w i ≡ w' i) → j + setWords ≤ n → setAt w j ≡ setAt w' j
+unfolding setAt
+set-read w w' j n same inside = ap₂ ofHalves (same j (omega arith)) (same (j + 1) (omega arith))
+
 -- Whatever is true of the records with four words in front is true of those with a question's words.
 by-four : (P : List ℕ → Type 0) → ((k f m v : ℕ) → P (k ∷ f ∷ m ∷ v ∷ [])) → (q : List ℕ) → length q ≡ askWords → P q
 by-four P p [] e = absurd (omega arith)
@@ -42,6 +50,14 @@ module _ (q : List ℕ) (next : Outcome → ℕ) (s o : ℕ) (long : length q �
   pub record-long : length (recordWith q next s o) ≡ recordWords
   unfolding recordWith asWords
   record-long = by-four (λ (x : List ℕ). length (recordWith x next s o) ≡ recordWords) (λ k f m v. refl) q long
+
+  pub sure-in : setAt (λ j. getD (recordWith q next s o) j 0) sureAt ≡ s
+  unfolding setAt recordWith asWords
+  sure-in = by-four (λ (x : List ℕ). setAt (λ j. getD (recordWith x next s o) j 0) sureAt ≡ s) (λ k f m v. halves-whole s) q long
+
+  pub out-in : setAt (λ j. getD (recordWith q next s o) j 0) outAt ≡ o
+  unfolding setAt recordWith asWords
+  out-in = by-four (λ (x : List ℕ). setAt (λ j. getD (recordWith x next s o) j 0) outAt ≡ o) (λ k f m v. halves-whole o) q long
 
   pub fresh-linked :
       set (set (set (freshRecord q s o) (nextAt Holds) (next Holds)) (nextAt Fails) (next Fails)) (nextAt Absent) (next Absent) ≡ recordWith q next s o
@@ -77,12 +93,12 @@ module _ (q : List ℕ) (next : Outcome → ℕ) (s o : ℕ) (long : length q �
         go Absent k f m v = refl
 
     sure-at : sureSetAt t n ≡ s
-    unfolding sureSetAt setAt recordWith asWords
-    sure-at = word-at sureAt (lit< tt) ∙ by-four (λ (x : List ℕ). getD (recordWith x next s o) sureAt 0 ≡ s) (λ k f m v. refl) q long
+    unfolding sureSetAt setAt
+    sure-at = ap₂ ofHalves (word-at sureAt (lit< tt)) (word-at (sureAt + 1) (lit< tt)) ∙ sure-in
 
     out-at : outSetAt t n ≡ o
-    unfolding outSetAt setAt recordWith asWords
-    out-at = word-at outAt (lit< tt) ∙ by-four (λ (x : List ℕ). getD (recordWith x next s o) outAt 0 ≡ o) (λ k f m v. refl) q long
+    unfolding outSetAt setAt
+    out-at = ap₂ ofHalves (word-at outAt (lit< tt)) (word-at (outAt + 1) (lit< tt)) ∙ out-in
 
     pub record-spells : Spells t n q next s o
     record-spells = record { question = question-at; way = way-at; sure = sure-at; out = out-at }

@@ -9,19 +9,19 @@ use Rattle.builder.proofs.meet.fresh_of.Tie as tie
 question-of-requires : tie.Need-question-of-requires
 question-of-requires c κs = search needs
 
-sure-set-requires : tie.Need-sure-set-requires
-sure-set-requires c κs = search needs
-
 out-set-requires : tie.Need-out-set-requires
 out-set-requires c κs = search needs
 
+sure-set-requires : tie.Need-sure-set-requires
+sure-set-requires c κs = search needs
+
 returns : tie.Need-returns
 returns c =
-    let s = c .before in
-    let q = s .before in
+    let o = c .before in
+    let q = o .before in
     let a = q .before .before .before .args in
-    fresh-is (a .n) (now (a .ranks)) (now (a .state)) _ (q .question-of .ensures) (s .sure-set .ensures) (c .out-set .ensures)
+    fresh-is (a .n) (now (a .ranks)) (now (a .state)) _ (q .question-of .ensures) (c .sure-set .ensures) (o .out-set .ensures)
 
 pub fresh-of-spec : {M : Type 1} → statement M
 fresh-of-spec =
-    tie.close (tie.spec question-of-requires sure-set-requires out-set-requires returns)
+    tie.close (tie.spec question-of-requires out-set-requires sure-set-requires returns)
