@@ -390,11 +390,12 @@ pub fn finish(stand: Stand, held: usize) -> Replayed
     match stand {
         Stand::Start => Replayed::Refused(17, 0),
         Stand::Within(_, left, number) => {
+            let next = next_count(number);
             if left != 0 {
                 return Replayed::Refused(18, number);
             }
             if held != 0 {
-                return Replayed::Refused(18, next_count(number));
+                return Replayed::Refused(18, next);
             }
             Replayed::Counted(number)
         }

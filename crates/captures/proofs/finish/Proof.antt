@@ -11,16 +11,16 @@ enum-told c = search needs
 enum-known-stand : tie.Need-enum-known-stand
 enum-known-stand c = search needs
 
-returns : tie.Need-returns
-returns c = ending-skip _ _ _ _ _ (c .before .before .stand .given .1) (c .if1 .taken)
-
 next-count-requires : tie.Need-next-count-requires
 next-count-requires c κs = search needs
+
+returns : tie.Need-returns
+returns c = ending-skip _ _ _ _ _ (c .before .before .before .stand .given .1) (c .if1 .taken)
 
 returns-2 : tie.Need-returns-2
 returns-2 c =
     let k = c .before .before in
-    ending-cut _ _ _ _ _ (k .before .before .stand .given .1) _ (k .if1 .left) (c .before .if2 .taken) (c .next-count .ensures)
+    ending-cut _ _ _ _ _ (k .before .before .stand .given .1) _ (c .before .if1 .left) (c .if2 .taken) (k .next-count .ensures)
 
 enum-known-stand-2 : tie.Need-enum-known-stand-2
 enum-known-stand-2 c = search needs
@@ -30,7 +30,7 @@ unfolding ending
 returns-3 c = rw (c .enum-told .given .1)
 
 returns-4 : tie.Need-returns-4
-returns-4 c = ending-whole _ _ _ _ _ (c .before .before .before .stand .given .1) (c .before .if1 .left) (c .if2 .left)
+returns-4 c = ending-whole _ _ _ _ _ (c .before .before .before .before .stand .given .1) (c .before .if1 .left) (c .if2 .left)
 
 returns-5 : tie.Need-returns-5
 unfolding ending
@@ -42,8 +42,8 @@ finish-spec =
     (tie.spec
     enum-told
     enum-known-stand
-    returns
     next-count-requires
+    returns
     returns-2
     enum-known-stand-2
     returns-3
