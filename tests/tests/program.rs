@@ -159,13 +159,8 @@ fn shipped_lists(program: &Compile) {
     }
 }
 
-<<<<<<< ours
-fn refusals(program: &Program) {
-    let full = spaced(&empty_filters(64));
-=======
 fn refusals(program: &Compile) {
-    let full = spaced(&empty_filters(32));
->>>>>>> theirs
+    let full = spaced(&empty_filters(64));
     let cases = [
         (format!("{full} 0"), "refused 1 64\n"),
         (format!("{full} 0 0 0"), "refused 1 64\n"),
