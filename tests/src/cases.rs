@@ -37,3 +37,5 @@ pub const RANDOM_TEXTS: Cases = Cases { name: "random texts", direct: 600, emula
 pub const GATEWAY_RUNS: Cases = Cases { name: "runs of a gateway", direct: 120, emulated: 12 };
 pub const OTHER_CONTENTS: Cases =
     Cases { name: "lists whose frames get other contents", direct: 400, emulated: 12 };
+pub const CAPTURE_CUTS: Cases = Cases { name: "cuts of captures", direct: 2_500, emulated: 300 };
+pub const RANDOM_CAPTURES: Cases = Cases { name: "random captures", direct: 600, emulated: 60 };

@@ -16,9 +16,10 @@
 //! - `gateway`: verdicts and tallies (document 02, P5)
 //! - `demands`: what the answers for one frame must be at every allowance
 //! - `program`: what the program `compile` prints for a text
+//! - `replay`: what the program `replay` prints for a text and a capture (document 02, P10)
 //! - `examples`: lists with known answers
 //! - `random`, `lists`, `frames`: seeded inputs
-//! - `pcap`: the frames of a capture file
+//! - `pcap`: the frames of a capture file, and files to be read
 //! - `coverage`, `runner`: what a run has met, and how it is counted
 //! - `tools`: other programs that the tests run, where they are installed
 //! - `library`: the library under test, linked or over the pipe
@@ -46,6 +47,7 @@ pub mod pcap;
 pub mod pipe;
 pub mod program;
 pub mod random;
+pub mod replay;
 pub mod residue;
 pub mod rules;
 pub mod runner;

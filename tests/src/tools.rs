@@ -54,3 +54,60 @@ pub fn run(command: &mut Command) -> Output {
     );
     output
 }
+
+/// A program of the box as it is run here: what a variable names, which this machine runs itself, or
+/// what is in target/bin, under an emulator where this processor needs one.
+pub struct Program(PathBuf, Vec<PathBuf>);
+
+impl Program {
+    /// None where it is not built.
+    pub fn find(name: &str, variable: &str) -> Option<Program> {
+        if let Some(path) = env::var_os(variable).map(PathBuf::from) {
+            return path.is_file().then_some(Program(path, Vec::new()));
+        }
+        let built = root().join("target/bin").join(name);
+        if !built.is_file() {
+            return None;
+        }
+        let emulator = run(&mut Command::new(root().join("scripts/emulator"))).stdout;
+        if emulator.is_empty() {
+            return Some(Program(built, Vec::new()));
+        }
+        Some(Program(root().join("scripts/run-program"), vec![built]))
+    }
+
+    /// Whether this machine runs it itself.
+    pub fn direct(&self) -> bool {
+        self.1.is_empty()
+    }
+
+    pub fn command(&self) -> Command {
+        let mut command = Command::new(&self.0);
+        command.args(&self.1);
+        command
+    }
+}
+
+/// A C program of tests/data that is linked with libpcap, or why it can't be made here.
+pub fn with_libpcap(name: &str) -> Result<PathBuf, String> {
+    if !installed("gcc") {
+        return Err("gcc is not installed".to_string());
+    }
+    let program = made(name);
+    let compiled = Command::new("gcc")
+        .arg("-Wall")
+        .arg(root().join("tests/data").join(name).with_extension("c"))
+        .arg("-lpcap")
+        .arg("-o")
+        .arg(&program)
+        .output()
+        .map_err(|error| error.to_string())?;
+    if compiled.status.success() {
+        return Ok(program);
+    }
+    let said = String::from_utf8_lossy(&compiled.stderr).into_owned();
+    if said.contains("pcap.h") || said.contains("-lpcap") {
+        return Err("libpcap's header or library is not installed".to_string());
+    }
+    panic!("{said}");
+}

@@ -18,7 +18,7 @@ use filterbox_tests::random::Random;
 use filterbox_tests::rules::{read_list, words, Filter, Test, AT_LEAST, AT_MOST, DIFFERS, EQUAL};
 use filterbox_tests::runner::{Ended, Runner};
 use filterbox_tests::scanner::{filter_holds, match_set};
-use filterbox_tests::tools::{installed, made, root, run};
+use filterbox_tests::tools::{root, run, with_libpcap};
 
 /// The captures, with the frames in each, how many of them are echo requests, of which only the first
 /// fragment counts, and how many are later fragments.
@@ -139,33 +139,8 @@ fn rules() -> Vec<(Vec<Test>, String)> {
     ]
 }
 
-/// The helper, if it can be compiled here.
-fn helper() -> Result<PathBuf, String> {
-    if !installed("gcc") {
-        return Err("gcc is not installed".to_string());
-    }
-    let program = made("match");
-    let source = file("match.c");
-    let compiled = Command::new("gcc")
-        .arg("-Wall")
-        .arg(source)
-        .arg("-lpcap")
-        .arg("-o")
-        .arg(&program)
-        .output()
-        .map_err(|error| error.to_string())?;
-    if compiled.status.success() {
-        return Ok(program);
-    }
-    let said = String::from_utf8_lossy(&compiled.stderr).into_owned();
-    if said.contains("pcap.h") || said.contains("-lpcap") {
-        return Err("libpcap's header or library is not installed".to_string());
-    }
-    panic!("{said}");
-}
-
 fn against_libpcap() -> Ended {
-    let helper = match helper() {
+    let helper = match with_libpcap("match") {
         Ok(helper) => helper,
         Err(why) => return Ended::Skipped(why),
     };

@@ -1,12 +1,10 @@
 //! The program `compile`: what it prints for many texts. It is target/bin/compile in the repository,
-//! run by scripts/run-program as on every processor, or what FILTERBOX_COMPILE says, which this
-//! machine runs itself; where it is not built, the checks are skipped.
+//! or what FILTERBOX_COMPILE says, which this machine runs itself; where it is not built, the checks
+//! are skipped.
 
-use std::env;
 use std::fs;
 use std::io::Write;
-use std::path::PathBuf;
-use std::process::{Command, Stdio};
+use std::process::Stdio;
 use std::thread::sleep;
 use std::time::Duration;
 
@@ -17,7 +15,7 @@ use filterbox_tests::program::{compile, MOST_TEXT};
 use filterbox_tests::random::Random;
 use filterbox_tests::rules::words;
 use filterbox_tests::runner::{Ended, Runner};
-use filterbox_tests::tools::root;
+use filterbox_tests::tools::{root, Program};
 
 const EXAMPLE: &str = "\
 states 10
@@ -81,9 +79,9 @@ fn main() {
         ("program_prints_random_lists", random_lists),
     ];
     for (name, check) in checks {
-        runner.attempt(name, || match Program::find() {
+        runner.attempt(name, || match Program::find("compile", "FILTERBOX_COMPILE") {
             Some(program) => {
-                check(&program);
+                check(&Compile(program));
                 Ended::Passed
             }
             None => Ended::Skipped("the program compile is not built".to_string()),
@@ -92,28 +90,20 @@ fn main() {
     runner.finish();
 }
 
-type Check = fn(&Program);
+type Check = fn(&Compile);
 
-/// What is run, and the words behind it.
-struct Program(PathBuf, &'static [&'static str]);
+/// The program, and what is compared.
+struct Compile(Program);
 
-impl Program {
-    fn find() -> Option<Program> {
-        if let Some(path) = env::var_os("FILTERBOX_COMPILE").map(PathBuf::from) {
-            return path.is_file().then_some(Program(path, &[]));
-        }
-        let built = root().join("target/bin/compile").is_file();
-        built.then(|| Program(root().join("scripts/run-program"), &["compile"]))
-    }
-
+impl Compile {
     /// What the program prints for a text that comes in these pieces.
     fn print(&self, pieces: &[&[u8]]) -> String {
-        let mut child = Command::new(&self.0)
-            .args(self.1)
+        let mut command = self.0.command();
+        let mut child = command
             .stdin(Stdio::piped())
             .stdout(Stdio::piped())
             .spawn()
-            .unwrap_or_else(|error| panic!("{:?}: {error}", self.0));
+            .unwrap_or_else(|error| panic!("{command:?}: {error}"));
         let mut input = child.stdin.take().expect("a pipe");
         for (i, piece) in pieces.iter().enumerate() {
             if i > 0 {
@@ -150,7 +140,7 @@ fn spaced(list: &[u32]) -> String {
     list.iter().map(u32::to_string).collect::<Vec<_>>().join(" ")
 }
 
-fn example(program: &Program) {
+fn example(program: &Compile) {
     let text = "1 0 1 1 11 255 8 2 0 2 1 11 255 0 1 4 255 1 3 0 1 1 4 255 1";
     program.prints(text.as_bytes(), EXAMPLE);
     program.prints(format!("{text}\n").as_bytes(), EXAMPLE);
@@ -158,7 +148,7 @@ fn example(program: &Program) {
 }
 
 /// The tables on the technicians' page are those of the lists that are shipped.
-fn shipped_lists(program: &Program) {
+fn shipped_lists(program: &Compile) {
     let page = fs::read_to_string(root().join("docs/TECHNICIANS.md")).expect("the page");
     for name in ["echo", "masked"] {
         let list = fs::read(root().join(format!("examples/{name}.list"))).expect("a shipped list");
@@ -169,7 +159,7 @@ fn shipped_lists(program: &Program) {
     }
 }
 
-fn refusals(program: &Program) {
+fn refusals(program: &Compile) {
     let full = spaced(&empty_filters(64));
     let cases = [
         (format!("{full} 0"), "refused 1 64\n"),
@@ -195,7 +185,7 @@ fn refusals(program: &Program) {
     }
 }
 
-fn slots(program: &Program) {
+fn slots(program: &Compile) {
     for (impossible, known) in [(0, "states 15"), (1, "states 16"), (2, "refused 11 0")] {
         let text = spaced(&words(&behind_impossible(impossible, one_bit_tests(3))));
         assert_eq!(compile(text.as_bytes()).lines().next(), Some(known));
@@ -203,13 +193,13 @@ fn slots(program: &Program) {
     }
 }
 
-fn blank_texts(program: &Program) {
+fn blank_texts(program: &Compile) {
     for text in ["", " ", "\n", " \n \n\n  "] {
         program.prints(text.as_bytes(), ONE_STATE);
     }
 }
 
-fn long_texts(program: &Program) {
+fn long_texts(program: &Compile) {
     let padded = |bytes: usize| {
         let mut text = spaced(&ECHO).into_bytes();
         text.resize(bytes, b' ');
@@ -229,7 +219,7 @@ fn long_texts(program: &Program) {
     program.check(&[&[b' '; MOST_TEXT - 1][..], b"7"].concat());
 }
 
-fn items(program: &Program) {
+fn items(program: &Compile) {
     // Each as the value of a box port, of which 255 is the greatest.
     let one_filter = |item: &str| format!("0 0 1 1 13 255 {item}");
     for (item, same_as) in [("7", "7"), ("007", "7"), ("00000000000000000000255", "255")] {
@@ -247,7 +237,7 @@ fn items(program: &Program) {
 }
 
 /// Every byte between two items and inside one.
-fn each_byte(program: &Program) {
+fn each_byte(program: &Compile) {
     for byte in 0..=255 {
         for place in [b' ', b'8'] {
             let mut text = spaced(&ECHO).into_bytes();
@@ -258,7 +248,7 @@ fn each_byte(program: &Program) {
     }
 }
 
-fn pieces(program: &Program) {
+fn pieces(program: &Compile) {
     let text = spaced(&ECHO);
     for cut in [1, 2, 11, 20, text.len() - 1] {
         let (first, second) = text.as_bytes().split_at(cut);
@@ -267,7 +257,7 @@ fn pieces(program: &Program) {
     }
 }
 
-fn random_lists(program: &Program) {
+fn random_lists(program: &Compile) {
     let texts = RANDOM_TEXTS.count();
     for case in 0..texts {
         let random = &mut Random::case(0xC0_4711E, case as u64);

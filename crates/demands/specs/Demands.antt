@@ -50,6 +50,11 @@ use Rattle.lamp.specs.laws.Truths.{lamp-shows, shows-lit, shows-asked}
 use Rattle.gateway.specs.Gateway.{tallyCount, verdictsFit, Judgement, countedAt, judged}
 use Rattle.gateway.specs.Events.{Event, sumOf, opened, bookOver}
 use Rattle.gateway.specs.laws.Events.{runs-add-up}
+use Rattle.captures.specs.Replay.{mostCount, lastFour, replayed, textReplayed}
+use Rattle.captures.specs.Parts.{played, joined}
+use Rattle.captures.specs.declared.Replayed.the-variants.{Counted}
+use Rattle.captures.specs.laws.Tallies.{adds-up}
+use Rattle.captures.specs.laws.Whole.{played-whole}
 use Rattle.builder.specs.Outcome.{refusalOf, numberOf, Left, scratchWords, outcome}
 use Rattle.labels.specs.Labels.{shownAt, metIn, Legal}
 use Rattle.demands.specs.laws.Builds.{build-full, build-fits}
@@ -194,3 +199,12 @@ module _ (f g : List ℕ) (alike : SteerAlike f g) (p : ℕ) where
 
   pub contents-judged : (t : List ℕ) (m : ℕ) (vs : List ℕ) (d : ℕ) (ts : List ℕ) → judged f p t m vs d ts ≡ judged g p t m vs d ts
   contents-judged = same-judged f g alike p
+
+-- Change request P10: however a capture comes in parts, the calls of a replay come to what its list's text and the whole file come to.
+pub replay-parts : (x : List ℕ) (parts : List (List ℕ)) → played x parts ≡ textReplayed x (joined parts)
+replay-parts = played-whole
+
+-- The last four tallies add up to the records read. (A count that has come to 2 ^ 64 - 1 stays there.)
+pub replay-adds-up :
+    (fs : List Filter) (s : List ℕ) (k : ℕ) → replayed fs s .answer ≡ Counted k → k < mostCount → lastFour (length fs) (replayed fs s .counts) ≡ k
+replay-adds-up = adds-up

@@ -11,9 +11,11 @@ use Rattle.matcher.specs.declared.Answer.{Answer}
 use Rattle.matcher.specs.Walk as W
 use Rattle.gateway.specs.declared.Judged.{Judged}
 use Rattle.gateway.specs.Gateway as G
+use Rattle.captures.specs.declared.Pause.{Pause}
+use Rattle.captures.specs.Parts as P
 use Rattle.demands.specs.Whole.{Whole, Rooms}
 
--- An answer, or lent memory afterwards, that equals a definition: `check`, `rank_sets`, `scan`, `light`, `read_field`, `residue_of`, the gateway's `clear` and all whose promise is one equation.
+-- An answer, or lent memory afterwards, that equals a definition: `check`, `rank_sets`, `scan`, `light`, `read_field`, `residue_of`, the gateway's `clear`, a replay's `begin` and `finish` and all whose promise is one equation.
 pub equation-tight : {A : Type 0} (d x y : A) → x ≡ d → y ≡ d → x ≡ y
 equation-tight d x y u v = u ∙ sym v
 
@@ -34,6 +36,13 @@ classify-tight f p t m a x y u v = u ∙ sym v
 -- Judging: the answer, and every tally afterwards.
 pub judge-tight : (j : G.Judgement) (a b : Judged) (ta tb : List ℕ) → G.judgementOf a ta ≡ j → G.judgementOf b tb ≡ j → (a ≡ b) × (ta ≡ tb)
 judge-tight j a b ta tb x y = (ap (λ (k : G.Judgement). k .answer) (x ∙ sym y), ap (λ (k : G.Judgement). k .tallies) (x ∙ sym y))
+
+-- Going on with a capture: where it stands, what waits, each byte of the buffer and every tally afterwards.
+pub go-on-tight :
+    (p : P.Paused) (before : List ℕ) (a b : Pause) (sa sb ta tb : List ℕ) → P.WentOn p before a sa ta → P.WentOn p before b sb tb →
+    (a .stand ≡ b .stand) × (a .held ≡ b .held) × (sa ≡ sb) × (ta ≡ tb)
+go-on-tight p before a b sa sb ta tb x y =
+    (x .stand ∙ sym (y .stand), x .held ∙ sym (y .held), x .buffer ∙ sym (y .buffer), x .tallies ∙ sym (y .tallies))
 
 -- Building and classifying as one.
 pub build-and-classify-tight :

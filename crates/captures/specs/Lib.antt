@@ -1,0 +1,5 @@
+pub mod Files
+pub mod Replay
+pub mod Parts
+pub mod inner
+pub mod laws
