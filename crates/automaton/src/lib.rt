@@ -1,1 +1,2 @@
 // The states that a machine meets, depth first; no code.
+#![tactic(auto)]

@@ -1,4 +1,6 @@
 // A list is compiled into a lent table (document 01, "States and the table" and "Refusal numbers").
+#![tactic(auto)]
+
 ghost use Rattle.std.specs.Prelude.{◌≡◌, ℕ};
 ghost use Rattle.lists.specs.Filters.{filters_of};
 ghost use Rattle.lists.specs.Refusals.{listed};
@@ -14,28 +16,28 @@ mod place;
 mod start;
 
 // The number of states, or a refusal's number with the filter's number or 0.
-#[derive(Drop)]
+#[derive(Clone, Copy)]
 pub enum Built {
     States(u32),
     Refused(u32, u32),
 }
 
 // What placing states comes to: so many slots used, or a new state that found none.
-#[derive(Drop)]
+#[derive(Clone, Copy)]
 pub enum Extent {
     Used(usize),
     Slotless,
 }
 
 // Where a state stands among those met.
-#[derive(Drop)]
+#[derive(Clone, Copy)]
 pub enum Sought {
     At(usize),
     Nothing,
 }
 
 // What meeting a state comes to: it stands at a place already, it is new and now stored, or it is new and no slot is left.
-#[derive(Drop)]
+#[derive(Clone, Copy)]
 pub enum Met {
     Old(usize),
     New,

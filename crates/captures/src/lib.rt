@@ -1,4 +1,6 @@
 // A capture (a classic libpcap file) is replayed through a list, part after part: where the parts end does not matter (change request P10).
+#![tactic(auto)]
+
 ghost use Rattle.std.specs.Prelude.{◌≡◌, cond, ◌++◌, ℕ, ◌+◌, ◌-◌, ◌≤◌, ◌<◌, length, take, drop};
 ghost use Rattle.std.proofs.Math.Seq.{paste};
 ghost use Rattle.lists.specs.Filters.{max_filters, filters_of};
@@ -51,7 +53,7 @@ pub const LAST_TALLIES: usize = 4;
 const MOST_COUNT: u64 = 18446744073709551615;
 
 // What a list's text comes to: so many words, and so many tallies for its filters and behind them; or a refusal's number with the filter's number.
-#[derive(Drop)]
+#[derive(Clone, Copy)]
 pub enum Begun {
     Ready(usize, usize),
     Refused(u32, u32),
@@ -59,7 +61,7 @@ pub enum Begun {
 
 // Where a replay stands: before the file's header; within the records, in a byte order, with so many bytes to skip of the record
 // that was counted last, and so many records begun; or at a refusal's number with the record's or filter's number.
-#[derive(Drop)]
+#[derive(Clone, Copy)]
 pub enum Stand {
     Start,
     Within(bool, u32, u64),
@@ -67,21 +69,21 @@ pub enum Stand {
 }
 
 // So many bytes are taken, and where the replay stands behind them.
-#[derive(Drop)]
+#[derive(Clone, Copy)]
 struct Gone {
     taken: usize,
     stand: Stand,
 }
 
 // Where a replay stands, and how many bytes at the front of the buffer wait for more.
-#[derive(Drop)]
+#[derive(Clone, Copy)]
 pub struct Pause {
     pub stand: Stand,
     pub held: usize,
 }
 
 // What a capture comes to: so many records counted, or a refusal's number with the record's number.
-#[derive(Drop)]
+#[derive(Clone, Copy)]
 pub enum Replayed {
     Counted(u64),
     Refused(u32, u64),
@@ -152,8 +154,8 @@ fn count_if(counts: &mut [u64], i: usize, b: bool)
 
 // Counts each of the first n filters that is in a set.
 fn count_set(counts: &mut [u64], n: usize, set: Set)
-    requires fact_1 { n ≤ length counts.old }
-    requires fact_2 { n ≤ max_filters }
+    requires n_in_bounds { n ≤ length counts.old }
+    requires few { n ≤ max_filters }
     ensures { counts.new ≡ count_set n set counts.old }
 {
     let mut i: usize = 0;
@@ -165,8 +167,8 @@ fn count_set(counts: &mut [u64], n: usize, set: Set)
 
 // Counts a frame that was matched.
 fn count_frame(counts: &mut [u64], n: usize, set: Set)
-    requires fact_1 { length counts.old ≡ tally_room n }
-    requires fact_2 { n ≤ max_filters }
+    requires room { length counts.old ≡ tally_room n }
+    requires few { n ≤ max_filters }
     ensures { counts.new ≡ counted n set counts.old }
 {
     count_set(counts, n, set);
@@ -218,8 +220,8 @@ fn pass(big: bool, captured: u32, number: u64, place: usize, counts: &mut [u64])
 
 // A record's header, and its frame if it is to be matched.
 fn record(list: &[u32], n: usize, big: bool, number: u64, s: &[u8], counts: &mut [u64]) -> Gone
-    requires fact_1 { ((t : ℕ) × (listed list.now ≡ Accepted n t)) }
-    requires fact_2 { length counts.old ≡ tally_room n }
+    requires accepted { (t : ℕ) × (listed list.now ≡ Accepted n t) }
+    requires room { length counts.old ≡ tally_room n }
     ensures { Went (filters_of list.now) (Within big 0 number) counts.old s.now result counts.new }
 {
     if s.len() < RECORD_HEADER {
@@ -248,8 +250,8 @@ fn record(list: &[u32], n: usize, big: bool, number: u64, s: &[u8], counts: &mut
 
 // Goes on by one header, one record or one run of skipped bytes; takes nothing where more bytes are needed.
 fn step(list: &[u32], n: usize, stand: Stand, s: &[u8], counts: &mut [u64]) -> Gone
-    requires fact_1 { ((t : ℕ) × (listed list.now ≡ Accepted n t)) }
-    requires fact_2 { length counts.old ≡ tally_room n }
+    requires accepted { (t : ℕ) × (listed list.now ≡ Accepted n t) }
+    requires room { length counts.old ≡ tally_room n }
     ensures { Went (filters_of list.now) stand counts.old s.now result counts.new }
 {
     match stand {
@@ -281,10 +283,10 @@ fn step(list: &[u32], n: usize, stand: Stand, s: &[u8], counts: &mut [u64]) -> G
 
 // Goes on as far as the bytes reach.
 fn run(list: &[u32], n: usize, stand: Stand, s: &[u8], counts: &mut [u64]) -> Gone
-    requires fact_1 { ((t : ℕ) × (listed list.now ≡ Accepted n t)) }
-    requires fact_2 { length counts.old ≡ tally_room n }
+    requires accepted { (t : ℕ) × (listed list.now ≡ Accepted n t) }
+    requires room { length counts.old ≡ tally_room n }
     ensures taken_in_bounds { result.taken ≤ length s.now }
-    ensures s_value { ran (filters_of list.now) stand counts.old s.now ≡ paused result.stand counts.new (drop result.taken s.now) }
+    ensures stands { ran (filters_of list.now) stand counts.old s.now ≡ paused result.stand counts.new (drop result.taken s.now) }
 {
     let mut at: usize = 0;
     let mut here = stand;
@@ -324,9 +326,9 @@ fn advance(
     end: usize,
     counts: &mut [u64],
 ) -> Pause
-    requires fact_1 { ((t : ℕ) × (listed list.now ≡ Accepted n t)) }
-    requires fact_2 { length counts.old ≡ tally_room n }
-    requires fact_3 { end ≤ length buffer.old }
+    requires accepted { (t : ℕ) × (listed list.now ≡ Accepted n t) }
+    requires room { length counts.old ≡ tally_room n }
+    requires end_in_bounds { end ≤ length buffer.old }
     ensures { WentOn (ran (filters_of list.now) stand counts.old (take end buffer.old)) buffer.old result buffer.new counts.new }
 {
     let gone = run(list, n, stand, &buffer[..end], counts);

@@ -1,4 +1,6 @@
 // Compiles the list that stands as text on standard input, and prints its table or the refusal (document 01, "Numbers to try").
+#![tactic(auto)]
+
 ghost use Rattle.std.specs.Prelude.{◌*◌, ◌≤◌, length};
 ghost use Rattle.tables.specs.Tables.{record_words};
 

@@ -1,4 +1,6 @@
 // The customer's demands, stated and proved from the promises of the public calls (specs/Demands.antt), and both calls as one.
+#![tactic(auto)]
+
 ghost use Rattle.builder.specs.Outcome.{outcome};
 ghost use Rattle.demands.specs.Whole.{Whole, Rooms};
 

@@ -33,7 +33,7 @@ fn type_in(frame: &[u8]) -> Reading
 }
 
 // What the first step of reading a header leaves: the set so far, and the packet in the frame.
-#[derive(Drop)]
+#[derive(Clone, Copy)]
 pub struct Begun {
     pub present: u32,
     pub packet: Packet,

@@ -48,7 +48,7 @@ const DESTINATION: u32 = 7;
 pub const HEADER_SET: u32 = (2 << DESTINATION) - (1 << TYPE_OF_SERVICE);
 
 // A packet that is whole, with the start and the end of its transport part.
-#[derive(Drop)]
+#[derive(Clone, Copy)]
 pub enum Packet {
     Nothing,
     Whole(usize, usize),

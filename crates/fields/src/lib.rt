@@ -1,4 +1,6 @@
 // The header fields of a frame (document 01, "Fields"): a module for each header, and what they share.
+#![tactic(auto)]
+
 ghost use Rattle.std.specs.Prelude.{◌≡◌, ℕ, ◌<◌};
 ghost use Rattle.sets.specs.Sets.{set_of, member};
 ghost use Rattle.fields.specs.Widths.{field_count};
@@ -35,7 +37,7 @@ const BOX_PORT: u32 = 13;
 pub type Values = [u32; FIELDS];
 
 // What reading a field answers: its value; none; or cut, where a frame that goes on could have it.
-#[derive(Drop)]
+#[derive(Clone, Copy)]
 pub enum Seen {
     Has(u32),
     None,

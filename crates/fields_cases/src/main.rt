@@ -1,5 +1,7 @@
 // Reads hand-made frames, at and around each border of document 01, "Fields", and of document 02, P2 and P7, and prints one line a frame: what it
 // tries, the frame's bytes, the present set, the cut set, and the fourteen fields, with - for none and ~ for cut. Box port 7 throughout.
+#![tactic(auto)]
+
 ghost use Rattle.std.specs.Prelude.{◌≤◌, length};
 
 use fields::{FIELDS, Seen};

@@ -1,4 +1,6 @@
 // The static library: the public calls under C names (include/filterbox.h).
+#![tactic(auto)]
+
 ghost use Rattle.std.specs.Prelude.{◌≡◌};
 ghost use Rattle.slots.specs.Words.{slot_words};
 ghost use Rattle.builder.specs.Outcome.{outcome};
@@ -22,7 +24,7 @@ const SCRATCH_WORDS: u32 = slots::SLOT_WORDS as u32;
 
 // The refusal's number, 0 where the table was built; and the number of states, or the filter's number.
 #[repr(C)]
-#[derive(Drop)]
+#[derive(Clone, Copy)]
 pub struct FilterboxBuilt {
     pub refusal: u32,
     pub number: u32,
@@ -66,7 +68,7 @@ pub extern "C" fn filterbox_scratch_words() -> u32
 // How a walk ended (0 refused, 1 done, 2 stopped), the refusal's number or 0, the sure set and the out set in two words each, the
 // questions asked, and 1 where some of them met a cut field, else 0.
 #[repr(C)]
-#[derive(Drop)]
+#[derive(Clone, Copy)]
 pub struct FilterboxAnswer {
     pub ended: u32,
     pub refusal: u32,
@@ -137,7 +139,7 @@ pub extern "C" fn filterbox_classify(
 
 // The refusal's number or 0, the filter's number for refusals 1 to 9, and the match set in two words, which is empty where refused.
 #[repr(C)]
-#[derive(Drop)]
+#[derive(Clone, Copy)]
 pub struct FilterboxScanned {
     pub refusal: u32,
     pub filter: u32,
@@ -174,7 +176,7 @@ pub extern "C" fn filterbox_scan(list: &[u32], frame: &[u8], port: u8) -> Filter
 
 // The refusal's number or 0, the filter's number for refusals 1 to 9, 1 where the lamp is lit, and the questions asked. A refusal has zeros for the last two.
 #[repr(C)]
-#[derive(Drop)]
+#[derive(Clone, Copy)]
 pub struct FilterboxLamp {
     pub refusal: u32,
     pub filter: u32,
@@ -223,7 +225,7 @@ pub extern "C" fn filterbox_lamp(
 
 // The refusal's number, 0 where the frame was judged; and the verdict, 0 where refused.
 #[repr(C)]
-#[derive(Drop)]
+#[derive(Clone, Copy)]
 pub struct FilterboxJudged {
     pub refusal: u32,
     pub verdict: u32,
@@ -271,7 +273,7 @@ pub extern "C" fn filterbox_clear(tallies: &mut [u32])
 
 // Whether a field is there (0 none, 1 value, 2 cut), and its value, 0 where it is not.
 #[repr(C)]
-#[derive(Drop)]
+#[derive(Clone, Copy)]
 pub struct FilterboxField {
     pub kind: u32,
     pub value: u32,

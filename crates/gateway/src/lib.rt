@@ -1,4 +1,6 @@
 // The gateway: a verdict for each frame, and a tally of what gave it (change request P5). It knows the matcher by its promises alone.
+#![tactic(auto)]
+
 ghost use Rattle.std.specs.Prelude.{◌≡◌, ◌<◌, length, get_or};
 ghost use Rattle.gateway.specs.Gateway.{tally_count, lowest_of, all_verdicts, verdicts_fit, judgement_of, counted_at, judged_by, judged, emptied};
 
@@ -23,7 +25,7 @@ pub const DIVERT: u32 = 2;
 const FULL: u32 = 4294967295;
 
 // What judging a frame comes to: its verdict, or a refusal's number.
-#[derive(Drop)]
+#[derive(Clone, Copy)]
 pub enum Judged {
     Verdict(u32),
     Refused(u32),

@@ -1,4 +1,6 @@
 // The activity lamp: whether any filter matches a frame, without saying which (change request P4).
+#![tactic(auto)]
+
 ghost use Rattle.std.specs.Prelude.{◌≡◌, cond, not, ◌||◌, ◌∷◌, [], ℕ, ◌+◌, ◌*◌, ◌≤◌, ◌<◌, eqb, ltb, length};
 ghost use Rattle.fields.specs.Header.{reading_at};
 ghost use Rattle.lists.specs.Filters.{item_of, filters_of, tests_in};
@@ -20,7 +22,7 @@ use slots::{FILTER_WORDS, SLOT_WORDS};
 use tables::{FIELD_AT, KIND_AT, MASK_AT, RECORD_WORDS, VALUE_AT};
 
 // What the lamp shows: lit or dark, with the questions asked; or a refusal's number with the filter's number. Refusals 12 and 13 name no filter.
-#[derive(Drop)]
+#[derive(Clone, Copy)]
 pub enum Lamp {
     Lit(u32),
     Dark(u32),
@@ -29,8 +31,8 @@ pub enum Lamp {
 
 // Whether record n asks the question of these words. Where there is none to ask the record's kind alone counts.
 fn record_asks(table: &[u32], n: usize, kind: u32, field: u32, mask: u32, value: u32) -> bool
-    requires fact_1 { n < max_slots }
-    requires fact_2 { record_words * (n + 1) ≤ length table.now }
+    requires few { n < max_slots }
+    requires in_bounds { record_words * (n + 1) ≤ length table.now }
     ensures { result ≡ record_asks table.now n (kind ∷ field ∷ mask ∷ value ∷ []) }
 {
     let b = RECORD_WORDS * n;
@@ -59,8 +61,8 @@ fn way_of(present: u32, values: &Values, kind: u32, field: u32, mask: u32, value
 
 // The next number that record n has at an outcome.
 fn way_at(table: &[u32], n: usize, o: Outcome) -> u32
-    requires fact_1 { n < max_slots }
-    requires fact_2 { record_words * (n + 1) ≤ length table.now }
+    requires few { n < max_slots }
+    requires in_bounds { record_words * (n + 1) ≤ length table.now }
     ensures { result ≡ way_at table.now n o }
 {
     table[RECORD_WORDS * n + tables::next_at(o)]

@@ -1,4 +1,6 @@
 // A run of words is a list of filters, or refused (document 01, "Tests, filters, ranks" and refusals 1 to 9).
+#![tactic(auto)]
+
 ghost use Rattle.std.specs.Prelude.{◌≡◌, cond, not, ◌+◌, ◌*◌, ◌≤◌, eqb, length, get_or, drop};
 ghost use Rattle.sets.specs.Sets.{set_of, tally};
 ghost use Rattle.lists.specs.Filters.{max_filters, head_words, test_words, count_word, test_of, item_of, filters_of};
@@ -53,7 +55,7 @@ const TESTS: u32 = MAX_TESTS as u32;
 const FIELDS: u32 = fields::FIELDS as u32;
 
 // What reading a list comes to: so many filters and tests, or a refusal's number with the filter's number.
-#[derive(Drop)]
+#[derive(Clone, Copy)]
 pub enum Listed {
     Accepted(u32, u32),
     Refused(u32, u32),

@@ -1,5 +1,7 @@
 // Shows what `lists` says of a list cut at every word, of lists with two faults, of long lists, and of ranks.
 // The file `stdout` was worked out by a script that was written from document 01 alone.
+#![tactic(auto)]
+
 use lists::Listed;
 use sets::Set;
 

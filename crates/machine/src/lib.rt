@@ -1,1 +1,2 @@
 // The machine of a list of filters; no code.
+#![tactic(auto)]

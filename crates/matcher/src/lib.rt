@@ -1,4 +1,6 @@
 // A frame is walked through a table (document 01, "Refusal numbers", the paragraph on classifying).
+#![tactic(auto)]
+
 ghost use Rattle.std.specs.Prelude.{◌≡◌, ℕ, ◌+◌, ◌-◌, ◌*◌, ◌<◌, ◌≤◌, length, false};
 ghost use Rattle.residue.specs.Tests.{holds};
 ghost use Rattle.fields.specs.Header.{Header, present_set};
@@ -24,7 +26,7 @@ const MAX_STATES: u32 = MAX_SLOTS as u32;
 
 // What the record shows that a walk ended at: its sure set and its out set; the questions asked; and whether some of them met
 // a cut field.
-#[derive(Drop)]
+#[derive(Clone, Copy)]
 pub struct Found {
     pub sure: Set,
     pub out: Set,
@@ -33,7 +35,7 @@ pub struct Found {
 }
 
 // The end of a walk: at a final record, or with the allowance used, each with what was found; or refused, with its number.
-#[derive(Drop)]
+#[derive(Clone, Copy)]
 pub enum Answer {
     Done(Found),
     Stopped(Found),
@@ -41,7 +43,7 @@ pub enum Answer {
 }
 
 // Where a walk stands: at record s, with so many questions left of its allowance.
-#[derive(Drop)]
+#[derive(Clone, Copy)]
 struct Place {
     s: u32,
     left: u32,
@@ -128,10 +130,10 @@ fn least_left(s: u32, left: u32, states: u32) -> u32
 // Passes such links from a place on, each two further than the one before, with a question each. A table that asks one field for
 // many values is a chain of them; adding two goes on without waiting for the next number of each.
 fn chain(table: &[u32], from: Place, field: u32, x: u32, states: u32) -> Place
-    requires fact_1 { from.s < states }
-    requires fact_2 { states ≤ max_slots }
-    requires fact_3 { record_words * states ≤ length table.now }
-    requires fact_4 { field < field_count }
+    requires from_in_range { from.s < states }
+    requires few { states ≤ max_slots }
+    requires in_bounds { record_words * states ≤ length table.now }
+    requires is_field { field < field_count }
     ensures { Chained table.now states field x from.left from.s result.left result.s }
 {
     let mut s = from.s;
@@ -182,10 +184,10 @@ fn walk_from(
     states: u32,
     allowance: u32,
 ) -> Answer
-    requires fact_1 { 0 < states }
-    requires fact_2 { states ≤ max_slots }
-    requires fact_3 { record_words * states ≤ length table.now }
-    requires fact_4 { ((p : ℕ) × (present ≡ present_set frame.now p)) }
+    requires begins { 0 < states }
+    requires few { states ≤ max_slots }
+    requires in_bounds { record_words * states ≤ length table.now }
+    requires is_read { (p : ℕ) × (present ≡ present_set frame.now p) }
     ensures { result ≡ walk_from table.now states (seen_at present (lacking frame.now present) values.now) allowance 0 false 0 }
 {
     let mut at = Place {

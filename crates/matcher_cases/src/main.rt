@@ -1,5 +1,7 @@
 // Runs classify on the table that document 01 prints, with an echo request of TTL 1: allowances, damaged tables,
 // numbers of states that do not fit, sets in both halves, frames at the length limit. Prints how each walk ended and its numbers.
+#![tactic(auto)]
+
 ghost use Rattle.std.specs.Prelude.{◌≡◌, ◌<◌, ◌≤◌, length};
 
 use libc::STDOUT_FILENO;

@@ -1,5 +1,7 @@
 // Replays the capture that the second argument names through the list of the first, and prints the tallies or the refusal
 // (change request P10).
+#![tactic(auto)]
+
 ghost use Rattle.std.specs.Prelude.{◌≡◌, true, ◌≤◌, length, take, replicate};
 ghost use Rattle.replay.specs.inner.Reads.{all_tallies, ReadOn, Answers, TextAnswers};
 
@@ -20,21 +22,21 @@ const TALLIES: usize = MAX_FILTERS + LAST_TALLIES;
 const PARTS: u64 = 18446744073709551615;
 
 // A file that was opened, or -1, and the bytes of its name.
-#[derive(Drop)]
+#[derive(Clone, Copy)]
 struct Opened {
     fd: i32,
     name: usize,
 }
 
 // A room is filled up to an end; or a read failed.
-#[derive(Drop)]
+#[derive(Clone, Copy)]
 struct Filled {
     end: usize,
     failed: bool,
 }
 
 // What a part leaves: whether to go on, whether a read failed, where the replay stands, and the bytes held.
-#[derive(Drop)]
+#[derive(Clone, Copy)]
 struct Turn {
     more: bool,
     failed: bool,
@@ -43,7 +45,7 @@ struct Turn {
 }
 
 // What a replay comes to, in so many tallies; or a read failed.
-#[derive(Drop)]
+#[derive(Clone, Copy)]
 struct Ended {
     failed: bool,
     answer: Replayed,

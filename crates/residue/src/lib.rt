@@ -1,11 +1,13 @@
 // What is left of a test once a fact about the same field is known (document 01, "Residues").
+#![tactic(auto)]
+
 ghost use Rattle.std.specs.Prelude.{◌≡◌, cond, ◌+◌, ◌-◌};
 ghost use Rattle.residue.specs.Tests.{holds};
 ghost use Rattle.residue.specs.Facts.{fact_of, fails_fact};
 ghost use Rattle.residue.specs.Residues.{outside, covers, reduced_equal, reduced_differs, from_masked, from_equal, from_differs, from_at_most, from_at_least, residue_by};
 
 // A test on a field: equal under a mask, differs under a mask (mask, value), at most, at least.
-#[derive(Drop)]
+#[derive(Clone, Copy)]
 pub enum Test {
     Equal(u32, u32),
     Differs(u32, u32),
@@ -14,14 +16,14 @@ pub enum Test {
 }
 
 // What a frame has in a field.
-#[derive(Drop)]
+#[derive(Clone, Copy)]
 pub enum Reading {
     Absent,
     Value(u32),
 }
 
 // What a question came to.
-#[derive(Drop)]
+#[derive(Clone, Copy)]
 pub enum Outcome {
     Holds,
     Fails,
@@ -29,14 +31,14 @@ pub enum Outcome {
 }
 
 // What is known of a field: the frame lacks it, or a test holds of it.
-#[derive(Drop)]
+#[derive(Clone, Copy)]
 pub enum Fact {
     Absent,
     Known(Test),
 }
 
 // What is left of a test.
-#[derive(Drop)]
+#[derive(Clone, Copy)]
 pub enum Residue {
     True,
     False,

@@ -1,5 +1,7 @@
 // Runs the residue cases of document 01, "Numbers to try", that are not marked, and edges at 8 and 32 bits,
 // and prints what is left of each test: true, false, or the kind, mask and value of the test.
+#![tactic(auto)]
+
 use libc::STDOUT_FILENO;
 use residue::{Fact, Residue, Test};
 

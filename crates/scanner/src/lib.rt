@@ -1,4 +1,6 @@
 // A list and a frame, without a table: each filter is asked in turn (change request P1).
+#![tactic(auto)]
+
 ghost use Rattle.std.specs.Prelude.{◌≡◌, ◌&&◌, ℕ, ◌+◌, ◌-◌, ◌*◌, ◌≤◌, ◌<◌, eqb, length, drop};
 ghost use Rattle.std.specs.Int.Bits.{bit_and};
 ghost use Rattle.sets.specs.Sets.{set_of, tally, member};
@@ -19,7 +21,7 @@ use residue::Reading;
 use sets::Set;
 
 // What scanning comes to: the match set, or a refusal's number with the filter's number. Refusal 12 names no filter.
-#[derive(Drop)]
+#[derive(Clone, Copy)]
 pub enum Scanned {
     Matched(Set),
     Refused(u32, u32),

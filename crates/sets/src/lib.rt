@@ -1,4 +1,6 @@
 // Sets of small numbers, as the bits of a word; and as two words half as wide, where they stand in a table or an answer.
+#![tactic(auto)]
+
 ghost use Rattle.std.specs.Prelude.{◌≡◌, ◌+◌, ◌*◌, ◌^◌, ◌<◌};
 ghost use Rattle.std.specs.Int.Count.{count_trailing_zeros};
 ghost use Rattle.sets.specs.Sets.{set_bits, bit, member};

@@ -1,5 +1,7 @@
 // A state as the words of one slot: as many words for each filter, its remaining tests first, zeros behind (specs/Words).
 // n is the number of filters; the slices hold the words of exactly these.
+#![tactic(auto)]
+
 ghost use Rattle.std.specs.Prelude.{◌≡◌, cond, ◌∷◌, [], map, ◌*◌, ◌-◌, ◌≤◌, length};
 ghost use Rattle.lists.specs.Filters.{filters_of, item_of};
 ghost use Rattle.states.specs.States.{all_left};
@@ -23,7 +25,7 @@ pub const SLOT_WORDS: usize = MAX_FILTERS * FILTER_WORDS;
 const HELD: u32 = 0;
 
 // The words of a test; all 0 where there is none to ask.
-#[derive(Drop)]
+#[derive(Clone, Copy)]
 pub struct Query {
     pub kind: u32,
     pub field: u32,

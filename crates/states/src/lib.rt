@@ -1,1 +1,2 @@
 // What a state says and why a path is right; no code.
+#![tactic(auto)]

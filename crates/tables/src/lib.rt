@@ -1,4 +1,6 @@
 // A table is a run of records, and a record has the words of its question, its next numbers and its sets (document 01, "States and the table").
+#![tactic(auto)]
+
 ghost use Rattle.std.specs.Prelude.{◌≡◌, ◌++◌, ◌+◌, ◌*◌, ◌-◌, ◌/◌, ◌≤◌, min, length, get_or, drop};
 ghost use Rattle.tables.specs.Tables.{set_words, record_words, max_slots, next_at, set_at};
 ghost use Rattle.tables.specs.inner.Records.{put_set, fresh_by, agree, record_at, agreeing_from, with_next};
@@ -33,7 +35,7 @@ pub const OUT_AT: usize = SURE_AT + SET_WORDS;
 pub const RECORD_WORDS: usize = OUT_AT + SET_WORDS;
 
 // A record with no next numbers yet: the words of its question, its sure set and its out set.
-#[derive(Drop)]
+#[derive(Clone, Copy)]
 pub struct Fresh {
     pub kind: u32,
     pub field: u32,

@@ -1,25 +1,27 @@
 // A text of list words: decimal numbers that stand apart by spaces or line ends (document 01, "Numbers to try" and refusal 14).
+#![tactic(auto)]
+
 ghost use Rattle.std.specs.Prelude.{◌≡◌, ◌≤◌, length};
 ghost use Rattle.text.specs.Text.{max_text, separates, is_digit, Reads};
 ghost use Rattle.text.specs.inner.Items.{max_items};
 ghost use Rattle.text.specs.inner.Steps.{spelled_at, ended, more, step};
 
 // What a text comes to: so many words, or refusal 14.
-#[derive(Drop)]
+#[derive(Clone, Copy)]
 pub enum Read {
     Words(usize),
     Refused,
 }
 
 // Where the reading stands: between items, or inside one, with the number that its bytes spell so far.
-#[derive(Drop)]
+#[derive(Clone, Copy)]
 pub enum Place {
     Between,
     Inside(u32),
 }
 
 // What a byte does: it leaves the reading at a place, ends an item, or shows that the item is no number.
-#[derive(Drop)]
+#[derive(Clone, Copy)]
 pub enum Step {
     Skip,
     Digit(u32),
@@ -84,8 +86,8 @@ fn step_by(place: Place, byte: u8) -> Step
 
 // The items of a text that is not too long. There are at most 8,192, since a separator stands between two.
 fn read_items(text: &[u8], words: &mut [u32]) -> Read
-    requires fact_1 { length text.now ≤ max_text }
-    requires fact_2 { max_items ≤ length words.old }
+    requires short { length text.now ≤ max_text }
+    requires room { max_items ≤ length words.old }
     ensures { Reads text.now words.old words.new result }
 {
     let mut count: usize = 0;

@@ -1,4 +1,6 @@
 // A list that stands as text is compiled into a lent table (document 01, "Numbers to try", the paragraph on the program).
+#![tactic(auto)]
+
 ghost use Rattle.builder.specs.Outcome.{Answered};
 ghost use Rattle.text_builder.specs.Outcome.{text_outcome};
 

@@ -1,4 +1,6 @@
 // Runs of words in lent memory.
+#![tactic(auto)]
+
 ghost use Rattle.std.specs.Prelude.{◌≡◌, ◌++◌, ◌≤◌, length, drop};
 ghost use Rattle.words.specs.Lent.{cleared};
 

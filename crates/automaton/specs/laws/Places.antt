@@ -68,11 +68,11 @@ pub place_begins_new : (M : Machine) (met more : List M.State) {whole : List M.S
 place_begins_new M met more s b e r = rw (b.grown, append_assoc met (s ∷ more) b.rest) (place_new M met (more ++ b.rest) s e r)
 
 module _ {M : Machine} {Good : M.State → Type 0} {left : M.State → ℕ} (law : Lawful M Good left) where
-  pub mem_meets : {met : List M.State} {s : M.State} → Good s → Memᴰ s met → meets M met s ≡ true
+  pub mem_meets : {s : M.State} {met : List M.State} → Good s → Memᴰ s met → meets M met s ≡ true
   unfolding meets
-  mem_meets {s} g (Memᴰ.head {x = x} {xs = xs} e) =
+  mem_meets {s = s} {met = met} g (Memᴰ.head {x = x} {xs = xs} e) =
       ap (λ (b : Bool). b || meets M xs s) (subst (λ (y : M.State). M.same y s ≡ true) e (law.same_refl s g))
-  mem_meets {s} g (Memᴰ.tail {x = x} {xs = xs} m) = ap (λ (b : Bool). M.same x s || b) (mem_meets g m) ∙ or-true (M.same x s)
+  mem_meets {s = s} {met = met} g (Memᴰ.tail {x = x} {xs = xs} m) = ap (λ (b : Bool). M.same x s || b) (mem_meets g m) ∙ or-true (M.same x s)
 
   pub meets_mem : (met : List M.State) (s : M.State) → Each Good met → meets M met s ≡ true → Memᴰ s met
   unfolding meets

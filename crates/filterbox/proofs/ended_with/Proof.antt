@@ -23,7 +23,7 @@ returns : tie.Need-returns
 returns c =
     let out = c.before in
     let sure = out.before.before in
-    rw (sure.before.low_half_lem.ensures, sure.high_half_lem.ensures, out.before.low-half2.ensures, out.high-half2.ensures, c.bit-of.ensures)
+    rw (sure.before.low_half.ensures, sure.high_half.ensures, out.before.low-half2.ensures, out.high-half2.ensures, c.bit-of.ensures)
 
 pub ended-with-spec : {M : Type 1} → statement M
 ended-with-spec =

@@ -21,7 +21,7 @@ returns : tie.Need-returns
 unfolding matched
 returns c =
     let low = c.before in
-    rw (low.before.before.answer.given.1, low.low_half_lem.ensures, c.high_half_lem.ensures)
+    rw (low.before.before.answer.given.1, low.low_half.ensures, c.high_half.ensures)
 
 returns-2 : tie.Need-returns-2
 unfolding matched

@@ -1,0 +1,18 @@
+-- `captures::count_set` meets its contract: after i turns the filters below i are counted. Assumes nothing.
+use Prim.Native.Nat.{ℕ, ◌+◌, ◌-◌, ◌≤◌}
+use mathlib.Core.Path.{◌≡◌, refl, sym, ap, ap₂, ◌∙◌}
+use mathlib.Core.Bool.{Bool, true, false, cond}
+use mathlib.Core.List.{List}
+use native.Mathlib.Omega.{arith}
+use lib.ListN.{length}
+use Rattle.sets.specs.Sets.{member}
+use Rattle.captures.specs.Replay.{count_up, count_set}
+use Rattle.captures.specs.laws.Tallies.{up_long, set_turn}
+use borrow.Author.Rules.{rules}
+use Rattle.captures.proofs.count_set.Given as goal
+
+abbrev pub invariant-loop-i : goal.invariant-loop-i
+invariant-loop-i l = (l.i ≤ l.n) × (l.counts ≡ count_set l.i l.set l.initial.counts) × (length l.counts ≡ length l.initial.counts)
+
+abbrev pub decreases-loop-i : goal.decreases-loop-i
+decreases-loop-i l = l.n - l.i

@@ -1,0 +1,20 @@
+-- `fields::ipv4::read_internet` meets its contract: a packet's header is put, and nothing where there is no packet.
+-- Assumes nothing.
+use borrow.Author.Rules.{rules}
+use mathlib.Core.Path.{sym, ◌∙◌}
+use Rattle.fields.specs.laws.Filling.{unchanged}
+use Rattle.fields.proofs.Headers.{PacketAt, is_packet, no_packet}
+use Rattle.fields.proofs.ipv4.read_internet.Goals as goal
+use Rattle.fields.proofs.ipv4.read_internet.Goals.{In-Whole}
+
+pub returns-in_default : goal.returns-in_default
+returns-in_default c = rw (no_packet _ (sym c.requires ∙ c.in_default.is)) unchanged
+
+packet-known : (c : In-Whole) → PacketAt c.args.frame.now c.in-Whole.field-0 c.in-Whole.field-1
+packet-known c = is_packet _ (sym c.requires ∙ c.in-Whole.is)
+
+pub fill_header-requires : goal.fill_header-requires
+fill_header-requires c = (packet-known (goal.at.fill_header-requires c).In-Whole).spans.whole
+
+pub returns : goal.returns
+returns c = rw (packet-known (goal.at.returns c).In-Whole).has c.fill_header.ensures

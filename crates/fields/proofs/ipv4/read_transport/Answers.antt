@@ -1,0 +1,34 @@
+-- `fields::ipv4::read_transport` meets its contract: the puts of the transport part that is lent, and none where there is no packet.
+-- Assumes nothing.
+use borrow.Author.Rules.{rules}
+use native.Mathlib.Omega.{arith}
+use mathlib.Core.Path.{sym, ◌∙◌}
+use Rattle.fields.specs.Ipv4.{protocol}
+use Rattle.fields.specs.laws.Filling.{unchanged}
+use Rattle.fields.proofs.Headers.{PacketAt, is_packet, no_packet}
+use Rattle.fields.proofs.ipv4.read_transport.Goals as goal
+use Rattle.fields.proofs.ipv4.read_transport.Goals.{In-Whole}
+
+pub returns-in_default : goal.returns-in_default
+returns-in_default c = rw (no_packet _ (sym c.requires ∙ c.in_default.is)) unchanged
+
+packet-known : (c : In-Whole) → PacketAt c.args.frame.now c.in-Whole.start c.in-Whole.end
+packet-known c = is_packet _ (sym c.requires ∙ c.in-Whole.is)
+
+pub byte_at-protocol-requires : goal.byte_at-protocol-requires
+byte_at-protocol-requires c = let known = (packet-known (goal.at.byte_at-protocol-requires c).In-Whole).spans in
+    omega arith
+
+pub slice_bounds-fill-count : goal.slice_bounds-fill-count
+slice_bounds-fill-count c = (packet-known (goal.at.slice_bounds-fill-count c).In-Whole).spans.order
+
+pub slice_bounds-fill-start : goal.slice_bounds-fill-start
+slice_bounds-fill-start c = (packet-known (goal.at.slice_bounds-fill-start c).In-Whole).spans.order
+
+pub slice_bounds-fill-end : goal.slice_bounds-fill-end
+slice_bounds-fill-end c = (packet-known (goal.at.slice_bounds-fill-end c).In-Whole).spans.inside
+
+pub returns : goal.returns
+unfolding protocol
+returns c = let known = packet-known (goal.at.returns c).In-Whole in
+    rw (known.has, known.same, ← c.byte_at-protocol.ensures) c.fill.ensures

@@ -1,0 +1,23 @@
+-- `scanner::fires_set` meets its contract. The invariant: the next filter begins at the place, and the set is the tally of the filters passed.
+-- The measure is the number of filters left. Assumes nothing.
+use Prim.Native.Nat.{ℕ, ◌+◌, ◌-◌, ◌*◌, ◌^◌, ◌≤◌}
+use mathlib.Core.Path.{◌≡◌, refl, sym, ap, ap₂, ◌∙◌}
+use mathlib.Core.Bool.{Bool}
+use native.Mathlib.Omega.{arith}
+use native.Mathlib.Nat.{le_refl}
+use Rattle.sets.specs.Sets.{bit, set_of, tally}
+use Rattle.sets.specs.laws.Members.{tally_put, tally_bound}
+use Rattle.fields.specs.Header.{reading_at}
+use Rattle.lists.specs.Filters.{max_filters, filters_of}
+use Rattle.lists.specs.Ranks.{fires}
+use Rattle.lists.specs.laws.Accepted.{accepted_count}
+use Rattle.lists.specs.laws.Walking.{Here, At, at_start, at_here, at_next}
+use Rattle.scanner.proofs.Scanning.{fires_here}
+use borrow.Author.Rules.{rules}
+use Rattle.scanner.proofs.fires_set.Given as goal
+
+abbrev pub invariant-loop-i : goal.invariant-loop-i
+invariant-loop-i l = (l.i ≤ l.n) × At l.list l.n l.i l.at × (l.set ≡ set_of (tally l.i (fires (filters_of l.list) (reading_at l.present l.values))))
+
+abbrev pub decreases-loop-i : goal.decreases-loop-i
+decreases-loop-i l = l.n - l.i

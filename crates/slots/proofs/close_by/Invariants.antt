@@ -1,0 +1,19 @@
+-- `slots::close_by` meets its contract. The loop's invariant: the words up to filter i, then the rest closed, are the whole.
+-- Assumes nothing.
+use native.Mathlib.Nat.{sub-zero}
+use Rattle.slots.proofs.Parts.{part_long, close_turn, closed_none, lent_long, room, done}
+use Rattle.slots.specs.inner.Slots.{closed_in}
+use Rattle.slots.specs.Words.{filter_slot}
+use lib.ListN.{length, take, drop}
+use native.Mathlib.Omega.{arith}
+use mathlib.Core.List.{◌++◌}
+use mathlib.Core.Path.{◌≡◌, sym, ap, ◌∙◌}
+use Prim.Native.Nat.{◌≤◌, ◌*◌, ◌-◌}
+use borrow.Author.Rules.{rules}
+use Rattle.slots.proofs.close_by.Given as goal
+
+abbrev pub invariant-loop-i : goal.invariant-loop-i
+invariant-loop-i l = (l.i ≤ l.n) × (length l.w ≡ filter_slot * l.n) × (take (filter_slot * l.i) l.w ++ closed_in (l.n - l.i) l.ranks l.held l.i (drop (filter_slot * l.i) l.w) ≡ closed_in l.n l.ranks l.held 0 l.initial.w)
+
+abbrev pub decreases-loop-i : goal.decreases-loop-i
+decreases-loop-i l = l.n - l.i

@@ -1,0 +1,22 @@
+-- `slots::fill_all` meets its contract. The loop's invariant: the filters that are written, then those from the one at which the loop stands in the list, are all of them.
+-- Assumes nothing.
+use Rattle.slots.proofs.Starting.{fill_turn, fill_end}
+use Rattle.slots.proofs.Parts.{part_long, room, lent_long, done}
+use Rattle.slots.specs.Words.{filter_slot}
+use Rattle.slots.specs.inner.Words.{written}
+use Rattle.states.specs.States.{all_left}
+use Rattle.lists.specs.Filters.{filters_of}
+use Rattle.lists.specs.laws.Walking.{Here, At, at_start, at_here, at_next}
+use lib.ListN.{length, take, drop}
+use native.Mathlib.Omega.{arith}
+use mathlib.Core.List.{◌++◌, map}
+use mathlib.Core.Path.{◌≡◌, refl, sym, ap, ◌∙◌}
+use Prim.Native.Nat.{◌≤◌, ◌+◌, ◌*◌, ◌-◌}
+use borrow.Author.Rules.{rules}
+use Rattle.slots.proofs.fill_all.Given as goal
+
+abbrev pub invariant-loop-i : goal.invariant-loop-i
+invariant-loop-i l = (l.i ≤ l.n) × (length l.dst ≡ filter_slot * l.n) × At l.list l.n l.i l.at × (take (filter_slot * l.i) l.dst ++ written (map all_left (drop l.i (filters_of l.list))) ≡ written (map all_left (filters_of l.list)))
+
+abbrev pub decreases-loop-i : goal.decreases-loop-i
+decreases-loop-i l = l.n - l.i
