@@ -1,7 +1,7 @@
 /*
  * Compiles three filters, classifies one frame with them, scans it by the list alone, asks whether any
  * filter matches it, judges it, and looks at what is left where only its beginning arrives. From the
- * repository root, once the library is built:
+ * repository root, once scripts/make-library has built the library:
  *
  *   gcc -Wall -Iinclude examples/box.c target/staticlib/libfilterbox.a -o box && ./box
  *

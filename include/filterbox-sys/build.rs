@@ -1,5 +1,5 @@
-// Links the static library where the feature asks for it. `rt staticlib filterbox` makes it in the
-// repository's root, always as x86-64 code, so that no other processor's program can have it in it.
+// Links the static library where the feature asks for it. scripts/make-library makes it in target/staticlib,
+// always as x86-64 code, so that no other processor's program can have it in it.
 // FILTERBOX_LIB_DIR names another folder, with a library that this machine's own compiler made.
 
 use std::env;

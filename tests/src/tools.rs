@@ -56,7 +56,7 @@ pub fn run(command: &mut Command) -> Output {
 }
 
 /// A program of the box as it is run here: what a variable names, which this machine runs itself, or
-/// what is in target/bin, under an emulator where this processor needs one.
+/// what the toolchain made in its crate's out/, under an emulator where this processor needs one.
 pub struct Program(PathBuf, Vec<PathBuf>);
 
 impl Program {
@@ -65,7 +65,7 @@ impl Program {
         if let Some(path) = env::var_os(variable).map(PathBuf::from) {
             return path.is_file().then_some(Program(path, Vec::new()));
         }
-        let built = root().join("target/bin").join(name);
+        let built = root().join("crates").join(name).join("out").join(name);
         if !built.is_file() {
             return None;
         }

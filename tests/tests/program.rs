@@ -1,4 +1,4 @@
-//! The program `compile`: what it prints for many texts. It is target/bin/compile in the repository,
+//! The program `compile`: what it prints for many texts. It is crates/compile/out/compile,
 //! or what FILTERBOX_COMPILE says, which this machine runs itself; where it is not built, the checks
 //! are skipped.
 

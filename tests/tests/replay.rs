@@ -1,5 +1,5 @@
-//! The program `replay`: what it prints for many lists and captures. It is target/bin/replay in the
-//! repository, or what FILTERBOX_REPLAY says, which this machine runs itself; where it is not built,
+//! The program `replay`: what it prints for many lists and captures. It is crates/replay/out/replay,
+//! or what FILTERBOX_REPLAY says, which this machine runs itself; where it is not built,
 //! the checks are skipped.
 
 use std::env;
