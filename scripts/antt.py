@@ -1,6 +1,6 @@
 """Reads proof files (.antt) and program files (.rt) for the scripts beside it: imports, declarations, and what a name means.
 
-A file is found by the path that a `use` line writes, wherever it stands: `Rattle·X.specs.laws.F` is crates/X/specs/laws/F.antt.
+A file is found by the path that a `use` line writes, wherever it stands: `Rattle.X.specs.laws.F` is crates/X/specs/laws/F.antt.
 The toolchain's libraries and what it generates below proofs/ are not read. Any other path that leads nowhere ends the script,
 and so does a form that is not read here: nothing is missed in silence. A name counts wherever it stands, even where a variable
 hides it. A declaration marked `abbrev`, `unfoldable`, `record` or `data` is a definition; any other is a law.
@@ -21,11 +21,11 @@ STATEMENTS = (
     "crates/builder/specs/Tight.antt",
     "crates/filterbox/specs/Tight.antt",
 )
-TOOLCHAIN = ("Prim", "mathlib", "native", "lib", "borrow", "mir", "denote")
+TOOLCHAIN = ("Prim", "mathlib", "native", "lib", "borrow", "mir", "denote", "contract", "Rattle.std")
 NAME = r'[^\s(){}.;,@"«»]+'
 USE = re.compile(r"^((?:unfoldable |pub |ghost )*)use ([^\s{;]+?)(?:(?:\.|::)\{([^}]*)\}| as ([^\s;]+))?;?$", re.M)
 HEAD = re.compile(rf"((?:unfoldable |abbrev |axiom |pub )*)(record |data |ruleset )?({NAME})(?: \{{[^}}]*\}})?( :)?")
-LABEL = re.compile(rf"(?:^ *(?:pub )?|(?<=[{{;]) *){NAME} (?=[:=](?:\s|$))|(?<=[({{])(?:{NAME} )+(?=:\s)", re.M)
+LABEL = re.compile(rf"(?:^ *(?:pub )?|(?<=[{{;,]) *){NAME} (?=[:=](?:\s|$))|(?<=[({{])(?:{NAME} )+(?=:\s)", re.M)
 UNREAD = re.compile(r"(unfoldable |abbrev )*mutual\b")
 PROGRAM = re.compile(r'(pub )?(?:extern "C" )?(enum|struct|type|const|fn) (\w+)')
 
@@ -38,8 +38,7 @@ def words(text):
 
 def means(word, local):
     """Whether a word of a text is the name local, something behind it, or a part of it where it is an operator."""
-    operator = local.startswith("_") or local.endswith("_")
-    return word == local or word.startswith(local + ".") or operator and word in local.split("_")
+    return word == local or word.startswith(local + ".") or "◌" in local and word != "" and word in local.split("◌")
 
 
 class Import:
@@ -150,8 +149,8 @@ class File:
 
 
 FILES = {}
-for path in sorted(ROOT.glob("crates/*/*/**/*")):
-    if path.suffix in (".antt", ".rt") and path.relative_to(ROOT).parts[2] in ("specs", "proofs", "src"):
+for path in sorted(path for part in ("specs", "proofs", "src") for path in ROOT.glob(f"crates/*/{part}/**/*")):
+    if path.suffix in (".antt", ".rt"):
         FILES[str(path.relative_to(ROOT))] = File(path)
 
 
@@ -163,15 +162,15 @@ def declared(crate, name, near=None):
 
 def lookup(module, name, at):
     """The item that a module has under a name, for the file at; None for the toolchain's and for a function of a program."""
-    head, *rest = module.split(".")
-    if head in TOOLCHAIN:
+    if (module + ".").startswith(tuple(library + "." for library in TOOLCHAIN)):
         return None
-    if "·" not in head and at.part == "src":
+    head, *rest = module.split(".")
+    if head != "Rattle" and at.part == "src":
         return declared(head if any(file.crate == head for file in FILES.values()) else at.crate, name, at)
-    crate = head.partition("·")[2].split("·")[0]
+    crate, *rest = rest or [""]
     file = FILES.get(f"crates/{crate}/{'/'.join(rest)}.antt")
     if rest[:2] == ["specs", "declared"]:
-        found = declared(crate, [part for part in rest if part != "the-variants"][-1])
+        found = declared(crate, [part for part in rest if part != "TheVariants"][-1])
     elif file is None and rest[:1] == ["proofs"]:
         return None
     else:
@@ -193,7 +192,7 @@ def resolve(file, word):
         if means(word, i.local) and (i.name is not None or "." in word):
             path = i.module.split(".") + ([i.name] if i.name is not None else word[len(i.local) + 1:].split("."))
             return lookup(".".join(path[:-1]), path[-1], file)
-    if word.startswith("Rattle·") or "::" in word:
+    if word.startswith("Rattle.") or "::" in word:
         module, _, name = word.replace("::", ".").rpartition(".")
         return lookup(module, name, file)
     return declared(file.crate, word.split(".")[0], file) if file.part == "src" else None
