@@ -186,8 +186,8 @@ def lookup(module, name, at):
 
 def resolve(file, word):
     """The item that a word of a file means; None: a variable, a function of the program, or the toolchain's."""
-    if word in file.own:
-        return file.own[word]
+    if (own := word if word in file.own else word.split(".")[0]) in file.own:     # a projection `x.f` names x
+        return file.own[own]
     for i in file.imports:
         if means(word, i.local) and (i.name is not None or "." in word):
             path = i.module.split(".") + ([i.name] if i.name is not None else word[len(i.local) + 1:].split("."))
