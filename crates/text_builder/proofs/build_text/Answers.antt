@@ -5,7 +5,6 @@ use lib.Seq.{length-take-le}
 use Rattle.text.specs.laws.Reading.{reads_refused, reads_accepted, reads_fit, reads_first}
 use Rattle.builder.specs.Outcome.{refused}
 use Rattle.text_builder.specs.laws.Texts.{text_refused, text_built}
-use borrow.Author.Rules.{rules}
 use Rattle.text_builder.proofs.build_text.Goals as goal
 
 pub slice_bounds-words-end : goal.slice_bounds-words-end
