@@ -15,7 +15,7 @@ use Rattle.scanner.specs.Scan.{scanned_by, scanned}
 use Rattle.lamp.specs.Lamp.{lamp_by, lamp_of}
 use Rattle.gateway.specs.Gateway.{allowance, judged}
 use Rattle.labels.specs.Labels.{readings}
-use Rattle.labels.specs.laws.Truths.{seen_field}
+use Rattle.labels.proofs.laws.Truths.{seen_field}
 
 module _ (f g : List ℕ) (alike : SteerAlike f g) (p : ℕ) where
   same_seen : seen f p ≡ seen g p

@@ -24,7 +24,7 @@ use Rattle.tables.specs.inner.Records.{way_at}
 use Rattle.slots.specs.Words.{question_words}
 use Rattle.matcher.specs.Walk.{damaged}
 use Rattle.labels.specs.inner.Labelled.{FinalRecord, AskingRecord, LabelledBy}
-use Rattle.labels.specs.laws.Courses.{undamaged}
+use Rattle.labels.proofs.laws.Courses.{undamaged}
 use Rattle.lamp.specs.Lamp.{numbers_of, is_as_is, some_held, lamp_next, lamp_from, lamp_of}
 use Rattle.lamp.specs.laws.Records.{words_as_is, as_is_words, as_is_final}
 use Rattle.lamp.specs.laws.Turns.{turn_lit, turn_dark, turn_spent, turn_goes, lamp_walks}

@@ -26,7 +26,7 @@ use Rattle.lamp.specs.Lamp.{numbers_of, lamp_of}
 use Rattle.builder.specs.Outcome.{refusal_of, number_of, placed, outcome}
 use Rattle.labels.specs.Labels.{shown_at, readings, met_in, Legal}
 use Rattle.labels.specs.inner.Labelled.{LabelledBy}
-use Rattle.labels.specs.laws.Truths.{Shows, open_member, seen_field, legal_widths, labelled_shows, labelled_keeps, picked_run, shows_done, shows_matches, shows_set, shows_settled, shows_sure, shows_out, shows_asked}
+use Rattle.labels.proofs.laws.Truths.{Shows, open_member, seen_field, legal_widths, labelled_shows, labelled_keeps, picked_run, shows_done, shows_matches, shows_set, shows_settled, shows_sure, shows_out, shows_asked}
 use Rattle.demands.specs.laws.Labelled.{built_labelled}
 use Rattle.demands.specs.laws.Lamps.{labelled_lamp}
 use Rattle.demands.specs.laws.Builds.{Success, build_success}

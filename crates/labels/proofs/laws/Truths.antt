@@ -38,7 +38,7 @@ use Rattle.matcher.specs.declared.Answer.{Answer}
 use Rattle.matcher.specs.Walk.{found, is_done, walk_from, walk}
 use Rattle.labels.specs.Labels.{ended_by, shown_at, readings, met_at, met_in, Legal}
 use Rattle.labels.specs.inner.Labelled.{met_on, LabelledBy}
-use Rattle.labels.specs.laws.Courses.{Course, walk_course, end_well, walk_shows}
+use Rattle.labels.proofs.laws.Courses.{Course, walk_course, end_well, walk_shows}
 
 -- ---- what is shown of a state
 

@@ -34,7 +34,7 @@ use Rattle.tables.specs.inner.Records.{question_at, way_at}
 use Rattle.matcher.specs.Walk.{found_at, damaged, next_by, next_of, cut_of, walk_from}
 use Rattle.labels.specs.Labels.{ended_by, shown_at, readings}
 use Rattle.labels.specs.inner.Labelled.{FinalRecord, AskingRecord, met_on, LabelledBy}
-use Rattle.labels.specs.laws.Turns.{walk_ends, walk_stops, walk_goes}
+use Rattle.labels.proofs.laws.Turns.{walk_ends, walk_stops, walk_goes}
 
 -- ---- the words of a question
 
