@@ -2,7 +2,6 @@
 -- Assumes nothing.
 use mathlib.Core.Path.{sym, ◌∙◌}
 use Rattle.builder.specs.laws.Building as P
-use borrow.Author.Rules.{rules}
 use Rattle.builder.proofs.build.Goals as goal
 
 pub build_accepted-requires : goal.build_accepted-requires

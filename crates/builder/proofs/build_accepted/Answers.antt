@@ -12,7 +12,6 @@ use Rattle.tables.specs.Tables.{record_words, slots_of}
 use Rattle.builder.specs.Outcome.{Answered, by_room}
 use Rattle.builder.specs.laws.Finished as F
 use Rattle.builder.specs.declared.Built.TheVariants as B
-use borrow.Author.Rules.{rules}
 use Rattle.builder.proofs.build_accepted.Goals as goal
 
 pub returns-then-scratch-slots : goal.returns-then-scratch-slots

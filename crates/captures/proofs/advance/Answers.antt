@@ -3,7 +3,6 @@ use mathlib.Core.Path.{sym}
 use native.Mathlib.Omega.{arith}
 use lib.Seq.{length-take-le}
 use Rattle.captures.proofs.Goings.{went_on_lem}
-use borrow.Author.Rules.{rules}
 use Rattle.captures.proofs.advance.Goals as goal
 
 pub slice_bounds-run-end-2 : goal.slice_bounds-run-end-2

@@ -1,7 +1,6 @@
 -- `captures::begin` meets its contract: the words that reading counts are the text's list. Assumes nothing.
 use Rattle.text.specs.laws.Reading.{reads_fit}
 use Rattle.captures.proofs.Beginning.{begun_unread, begun_read}
-use borrow.Author.Rules.{rules}
 use Rattle.captures.proofs.begin.Goals as goal
 
 pub begin_list-requires : goal.begin_list-requires

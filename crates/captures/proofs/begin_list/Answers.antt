@@ -2,7 +2,6 @@
 use mathlib.Core.Path.{sym, ◌∙◌}
 use lib.Seq.{length-take-le}
 use Rattle.captures.specs.Parts.{begun_with}
-use borrow.Author.Rules.{rules}
 use Rattle.captures.proofs.begin_list.Goals as goal
 
 pub slice_bounds-check-end : goal.slice_bounds-check-end

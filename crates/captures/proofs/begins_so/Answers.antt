@@ -1,7 +1,6 @@
 -- `captures::begins_so` meets its contract. Assumes nothing.
 use mathlib.Core.Path.{ap}
 use Rattle.captures.specs.Files.{is_magic, begins}
-use borrow.Author.Rules.{rules}
 use Rattle.captures.proofs.begins_so.Goals as goal
 
 pub returns : goal.returns

@@ -5,7 +5,6 @@ use borrow.Author.Tests.{eq-eqb, ne_eqb}
 use lib.ListN.{length}
 use Rattle.captures.specs.Replay.{counted}
 use Rattle.captures.specs.laws.Tallies.{set_long}
-use borrow.Author.Rules.{rules}
 use Rattle.captures.proofs.count_frame.Goals as goal
 
 pub count_up-requires : goal.count_up-requires

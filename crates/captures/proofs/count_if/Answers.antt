@@ -1,5 +1,4 @@
 -- `captures::count_if` meets its contract, by the truth it is given. Assumes nothing.
-use borrow.Author.Rules.{rules}
 use Rattle.captures.proofs.count_if.Goals as goal
 
 pub returns-then-b : goal.returns-then-b

@@ -1,5 +1,5 @@
 -- `captures::count_set` meets its contract: after i turns the filters below i are counted. Assumes nothing.
-use Prim.Native.Nat.{ℕ, ◌+◌, ◌-◌, ◌≤◌}
+use Prim.Native.Nat.{ℕ, ◌+◌}
 use mathlib.Core.Path.{◌≡◌, refl, sym, ap, ap₂, ◌∙◌}
 use mathlib.Core.Bool.{Bool, true, false, cond}
 use mathlib.Core.List.{List}
@@ -8,7 +8,6 @@ use lib.ListN.{length}
 use Rattle.sets.specs.Sets.{member}
 use Rattle.captures.specs.Replay.{count_up, count_set}
 use Rattle.captures.specs.laws.Tallies.{up_long, set_turn}
-use borrow.Author.Rules.{rules}
 use Rattle.captures.proofs.count_set.Goals as goal
 
 turned : (ts : List ℕ) (s i : ℕ) (b : Bool) (us vs : List ℕ) → us ≡ count_set i s ts → b ≡ member i s → vs ≡ cond b (count_up i us) us → vs ≡ count_set (i + 1) s ts
@@ -27,10 +26,10 @@ count_if-requires c = omega (arith, c.loop-i.invariant.2, c.requires.n_in_bounds
 
 pub loop-i-preserved : goal.loop-i-preserved
 loop-i-preserved c = (
-      omega arith,
-      turned c.args.counts.now c.args.set c.loop-i.i _ c.loop-i.counts _ c.loop-i.invariant.1 c.has.ensures c.count_if.ensures,
-      ap length c.count_if.ensures ∙ long-if c.has.result c.loop-i.i c.loop-i.counts ∙ c.loop-i.invariant.2,
-    )
+  omega arith,
+  turned c.args.counts.now c.args.set c.loop-i.i _ c.loop-i.counts _ c.loop-i.invariant.1 c.has.ensures c.count_if.ensures,
+  ap length c.count_if.ensures ∙ long-if c.has.result c.loop-i.i c.loop-i.counts ∙ c.loop-i.invariant.2,
+)
 
 pub returns : goal.returns
 returns c = let e : c.loop-i.i ≡ c.args.n = omega arith in

@@ -1,14 +1,8 @@
 -- `captures::count_set` meets its contract: after i turns the filters below i are counted. Assumes nothing.
-use Prim.Native.Nat.{ℕ, ◌+◌, ◌-◌, ◌≤◌}
-use mathlib.Core.Path.{◌≡◌, refl, sym, ap, ap₂, ◌∙◌}
-use mathlib.Core.Bool.{Bool, true, false, cond}
-use mathlib.Core.List.{List}
-use native.Mathlib.Omega.{arith}
+use Prim.Native.Nat.{◌-◌, ◌≤◌}
+use mathlib.Core.Path.{◌≡◌}
 use lib.ListN.{length}
-use Rattle.sets.specs.Sets.{member}
-use Rattle.captures.specs.Replay.{count_up, count_set}
-use Rattle.captures.specs.laws.Tallies.{up_long, set_turn}
-use borrow.Author.Rules.{rules}
+use Rattle.captures.specs.Replay.{count_set}
 use Rattle.captures.proofs.count_set.Given as goal
 
 abbrev pub invariant-loop-i : goal.invariant-loop-i

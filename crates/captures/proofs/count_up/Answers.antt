@@ -3,7 +3,6 @@ use mathlib.Core.Path.{ap}
 use lib.ListN.{set}
 use Prim.Native.Nat.{ℕ}
 use Rattle.captures.specs.Replay.{count_up}
-use borrow.Author.Rules.{rules}
 use Rattle.captures.proofs.count_up.Goals as goal
 
 pub returns : goal.returns

@@ -1,7 +1,6 @@
 -- `captures::finish` meets its contract, case by case. Assumes nothing.
 use Rattle.captures.specs.Parts.{ending}
 use Rattle.captures.proofs.Standing.{ending_skip, ending_cut, ending_whole}
-use borrow.Author.Rules.{rules}
 use Rattle.captures.proofs.finish.Goals as goal
 
 pub returns-then-left-ne0 : goal.returns-then-left-ne0

@@ -2,7 +2,6 @@
 use mathlib.Core.Path.{sym, ◌∙◌}
 use native.Mathlib.Nat.{le_refl}
 use Rattle.captures.proofs.Goings.{on_refused, on_roomless, on_some, on_all}
-use borrow.Author.Rules.{rules}
 use Rattle.captures.proofs.go_on.Goals as goal
 
 pub returns-then-counts-n : goal.returns-then-counts-n

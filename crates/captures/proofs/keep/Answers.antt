@@ -8,7 +8,6 @@ use native.Mathlib.Nat.{zero-add, add_comm}
 use native.Mathlib.Numerals.{add-one}
 use lib.ListN.{length, drop, set, get_or, length-set, length-drop}
 use lib.Seq.{paste, paste-zero, paste-suc, drop-paste, get_or-drop}
-use borrow.Author.Rules.{rules}
 use Rattle.captures.proofs.keep.Goals as goal
 
 -- What is read was not yet written.

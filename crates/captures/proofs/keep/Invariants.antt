@@ -1,14 +1,9 @@
 -- `captures::keep` meets its contract: after i turns the first i bytes are those from the place on, and the others as they were.
 -- Assumes nothing.
-use Prim.Native.Nat.{ℕ, ◌+◌, ◌-◌, ◌≤◌, ◌<◌}
-use mathlib.Core.Path.{◌≡◌, refl, sym, ap, ◌∙◌}
-use mathlib.Core.List.{List}
-use native.Mathlib.Omega.{arith}
-use native.Mathlib.Nat.{zero-add, add_comm}
-use native.Mathlib.Numerals.{add-one}
-use lib.ListN.{length, drop, set, get_or, length-set, length-drop}
-use lib.Seq.{paste, paste-zero, paste-suc, drop-paste, get_or-drop}
-use borrow.Author.Rules.{rules}
+use Prim.Native.Nat.{◌-◌, ◌≤◌}
+use mathlib.Core.Path.{◌≡◌}
+use lib.ListN.{length, drop}
+use lib.Seq.{paste}
 use Rattle.captures.proofs.keep.Given as goal
 
 abbrev pub invariant-loop-i : goal.invariant-loop-i

@@ -1,7 +1,6 @@
 -- `captures::next_count` meets its contract. Assumes nothing.
 use Rattle.captures.specs.Replay.{most_count, next_count}
 use borrow.Author.Tests.{lt-ltb, le-ltb}
-use borrow.Author.Rules.{rules}
 use Rattle.captures.proofs.next_count.Goals as goal
 
 pub returns-then-x-lt-MOST_COUNT : goal.returns-then-x-lt-MOST_COUNT

@@ -1,6 +1,5 @@
 -- `captures::open_file` meets its contract: the truths it has are those of the definition. Assumes nothing.
 use Rattle.captures.proofs.Standing.{opened_by}
-use borrow.Author.Rules.{rules}
 use Rattle.captures.proofs.open_file.Goals as goal
 
 pub returns-then-big-little : goal.returns-then-big-little

@@ -4,7 +4,6 @@ use Prim.Native.Nat.{ℕ}
 use Rattle.captures.specs.Files.{record_header}
 use Rattle.captures.specs.inner.Steps.{gone}
 use Rattle.captures.specs.declared.Stand.TheVariants.{Within}
-use borrow.Author.Rules.{rules}
 use Rattle.captures.proofs.pass.Goals as goal
 
 pub returns : goal.returns

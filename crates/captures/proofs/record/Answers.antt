@@ -6,7 +6,6 @@ use Rattle.lists.specs.Filters.{filters_of}
 use Rattle.lists.specs.laws.Accepted.{accepted_count}
 use Rattle.captures.specs.Replay.{counted}
 use Rattle.captures.proofs.Goings.{went_wait, went_cut, went_short, went_long, went_frame}
-use borrow.Author.Rules.{rules}
 use Rattle.captures.proofs.record.Goals as goal
 use Rattle.captures.proofs.record.Goals.{Start}
 

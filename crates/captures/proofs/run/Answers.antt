@@ -1,13 +1,11 @@
 -- `captures::run` meets its contract. The invariant: what the bytes come to has stayed the same up to the place.
 -- The measure is the number of bytes left; each step but the last takes some. Assumes nothing.
-use Prim.Native.Nat.{ℕ, ◌-◌, ◌≤◌}
+use Prim.Native.Nat.{ℕ, ◌-◌}
 use mathlib.Core.Path.{◌≡◌, refl, ap, ◌∙◌}
 use mathlib.Core.List.{List}
 use native.Mathlib.Omega.{arith}
 use lib.ListN.{length, take, drop, length-drop}
 use lib.Seq.{drop-drop}
-use Rattle.lists.specs.Filters.{filters_of}
-use Rattle.captures.specs.Parts.{ran}
 use Rattle.captures.proofs.Goings.{rest_all}
 use borrow.Author.Rules.{rules}
 use Rattle.captures.proofs.run.Goals as goal
@@ -37,7 +35,7 @@ loop-next-smaller c = omega (arith, c.step-next.ensures.within, part_long c.loop
 
 pub loop-next-preserved : goal.loop-next-preserved
 loop-next-preserved c = let e = rest_all c.loop-next.at c.args.s.now in (
-      omega (arith, c.step-next.ensures.within, part_long c.loop-next.at c.args.s.now, c.loop-next.invariant.0),
-      c.loop-next.invariant.1 ∙ rw (e, drop-drop c.step-next.result.taken c.loop-next.at c.args.s.now) at c.step-next.ensures.keeps,
-      search rules,
-    )
+  omega (arith, c.step-next.ensures.within, part_long c.loop-next.at c.args.s.now, c.loop-next.invariant.0),
+  c.loop-next.invariant.1 ∙ rw (e, drop-drop c.step-next.result.taken c.loop-next.at c.args.s.now) at c.step-next.ensures.keeps,
+  search rules,
+)

@@ -1,15 +1,10 @@
 -- `captures::run` meets its contract. The invariant: what the bytes come to has stayed the same up to the place.
 -- The measure is the number of bytes left; each step but the last takes some. Assumes nothing.
-use Prim.Native.Nat.{ℕ, ◌-◌, ◌≤◌}
-use mathlib.Core.Path.{◌≡◌, refl, ap, ◌∙◌}
-use mathlib.Core.List.{List}
-use native.Mathlib.Omega.{arith}
-use lib.ListN.{length, take, drop, length-drop}
-use lib.Seq.{drop-drop}
+use Prim.Native.Nat.{◌-◌, ◌≤◌}
+use mathlib.Core.Path.{◌≡◌}
+use lib.ListN.{length, drop}
 use Rattle.lists.specs.Filters.{filters_of}
 use Rattle.captures.specs.Parts.{ran}
-use Rattle.captures.proofs.Goings.{rest_all}
-use borrow.Author.Rules.{rules}
 use Rattle.captures.proofs.run.Given as goal
 
 abbrev pub invariant-loop-next : goal.invariant-loop-next

@@ -3,7 +3,6 @@ use Prim.Native.Nat.{ℕ, ◌-◌}
 use mathlib.Core.Path.{◌≡◌, ap}
 use native.Mathlib.Omega.{arith}
 use Rattle.captures.specs.declared.Stand.TheVariants.{Within}
-use borrow.Author.Rules.{rules}
 use Rattle.captures.proofs.skip.Goals as goal
 
 pub returns : goal.returns

@@ -1,7 +1,6 @@
 -- `captures::spell` meets its contract: the sum is the definition's, and it fits since each byte is below 256. Assumes nothing.
 use mathlib.Core.Path.{refl}
 use Rattle.captures.specs.Files.{spelt}
-use borrow.Author.Rules.{rules}
 use Rattle.captures.proofs.spell.Goals as goal
 
 pub returns : goal.returns

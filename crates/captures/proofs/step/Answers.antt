@@ -1,6 +1,5 @@
 -- `captures::step` meets its contract, by where the replay stands. Assumes nothing.
 use Rattle.captures.proofs.Goings.{went_start, went_open, went_record, went_skip, went_refused}
-use borrow.Author.Rules.{rules}
 use Rattle.captures.proofs.step.Goals as goal
 
 pub returns-then-s-lt-FILE_HEADER : goal.returns-then-s-lt-FILE_HEADER

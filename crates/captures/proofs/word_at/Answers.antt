@@ -1,6 +1,5 @@
 -- `captures::word_at` meets its contract: the order says which byte is the highest. Assumes nothing.
 use Rattle.captures.specs.Files.{word_of}
-use borrow.Author.Rules.{rules}
 use Rattle.captures.proofs.word_at.Goals as goal
 
 pub returns-then-big : goal.returns-then-big

@@ -1,6 +1,5 @@
 -- `fields::cut_set` meets its contract: where the last field of a part is there nothing is lacking; else the complement of a set is
 -- what it lacks of all bits. Assumes nothing.
-use borrow.Author.Rules.{rules}
 use borrow.Author.Tests.{not-true}
 use native.Mathlib.Omega.{arith}
 use mathlib.Core.Path.{sym, ◌∙◌}

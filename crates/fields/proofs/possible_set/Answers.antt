@@ -1,6 +1,5 @@
 -- `fields::possible_set` meets its contract: each return has found which headers could be there.
 -- Assumes nothing.
-use borrow.Author.Rules.{rules}
 use borrow.Author.Tests.{not-true, not-false}
 use native.Mathlib.Omega.{arith}
 use mathlib.Core.Path.{sym, ◌∙◌}
@@ -19,17 +18,17 @@ returns-then-not-may_be_type c = let no = sym c.may_be_type.ensures ∙ not-true
 pub returns-then-not-may_be_packet : goal.returns-then-not-may_be_packet
 unfolding chances may_carry set_of
 returns-then-not-may_be_packet c = simp (
-      sym c.may_be_type.ensures ∙ not-false _ c.if-not-may_be_type.false-raw,
-      sym c.may_be_packet.ensures ∙ not-true _ c.if-not-may_be_packet.true-raw,
-    )
+  sym c.may_be_type.ensures ∙ not-false _ c.if-not-may_be_type.false-raw,
+  sym c.may_be_packet.ensures ∙ not-true _ c.if-not-may_be_packet.true-raw,
+)
 
 pub returns-then-not-may_begin : goal.returns-then-not-may_begin
 unfolding chances may_carry set_of
 returns-then-not-may_begin c = simp (
-      sym c.may_be_type.ensures ∙ not-false _ c.if-not-may_be_type.false-raw,
-      sym c.may_be_packet.ensures ∙ not-false _ c.if-not-may_be_packet.false-raw,
-      sym c.may_begin.ensures ∙ not-true _ c.if-not-may_begin.true-raw,
-    )
+  sym c.may_be_type.ensures ∙ not-false _ c.if-not-may_be_type.false-raw,
+  sym c.may_be_packet.ensures ∙ not-false _ c.if-not-may_be_packet.false-raw,
+  sym c.may_begin.ensures ∙ not-true _ c.if-not-may_begin.true-raw,
+)
 
 pub overflow_add-result-2 : goal.overflow_add-result-2
 unfolding carried
@@ -38,9 +37,9 @@ overflow_add-result-2 c = omega (arith, set_of_bound (carried c.args.frame.now 2
 pub returns : goal.returns
 unfolding chances may_carry carried set_of
 returns c = rw (
-      c.carried_set.ensures,
-      sym c.may_be_type.ensures ∙ not-false _ c.if-not-may_be_type.false-raw,
-      sym c.may_be_packet.ensures ∙ not-false _ c.if-not-may_be_packet.false-raw,
-      sym c.may_begin.ensures ∙ not-false _ c.if-not-may_begin.false-raw,
-    )
+  c.carried_set.ensures,
+  sym c.may_be_type.ensures ∙ not-false _ c.if-not-may_be_type.false-raw,
+  sym c.may_be_packet.ensures ∙ not-false _ c.if-not-may_be_packet.false-raw,
+  sym c.may_begin.ensures ∙ not-false _ c.if-not-may_begin.false-raw,
+)
     (omega arith)

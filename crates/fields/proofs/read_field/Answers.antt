@@ -1,6 +1,5 @@
 -- `fields::read_field` meets its contract: what a header that was read answers for a number is that field of the frame.
 -- Assumes nothing.
-use borrow.Author.Rules.{rules}
 use mathlib.Core.Path.{refl}
 use Rattle.fields.specs.laws.CutSet.{cut_set_lem, seen_agrees}
 use Rattle.fields.proofs.read_field.Goals as goal

@@ -1,6 +1,5 @@
 -- `fields::read_header` meets its contract: its steps make a header.
 -- Assumes nothing.
-use borrow.Author.Rules.{rules}
 use Rattle.fields.specs.laws.Filling.{header_by_steps}
 use Rattle.fields.proofs.read_header.Goals as goal
 

@@ -1,6 +1,5 @@
 -- `fields::reading_at` meets its contract: the tests are the definition's, bit by bit.
 -- Assumes nothing.
-use borrow.Author.Rules.{rules}
 use native.Mathlib.Omega.{arith}
 use Prim.Native.Nat.{◌≤◌, ◌<◌}
 use borrow.Author.Tests.{le-ltb, lt-ltb, eq-eqb, ne_eqb}

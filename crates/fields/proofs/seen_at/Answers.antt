@@ -1,6 +1,5 @@
 -- `fields::seen_at` meets its contract: where the reading is absent the other set tells whether the field is cut.
 -- Assumes nothing.
-use borrow.Author.Rules.{rules}
 use borrow.Author.Tests.{le-ltb, lt-ltb}
 use native.Mathlib.Omega.{arith}
 use Prim.Native.Nat.{◌≤◌, ◌<◌}

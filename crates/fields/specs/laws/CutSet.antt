@@ -15,7 +15,7 @@ use Rattle.sets.specs.laws.Members.{each, less, minus_sets, member_set_of, membe
 use Rattle.fields.specs.declared.Seen.{Seen}
 use Rattle.fields.specs.declared.Seen.TheVariants.{Has, None, Cut}
 use Rattle.fields.specs.Widths.{field_count}
-use Rattle.fields.specs.Bytes.{byte, two}
+use Rattle.fields.specs.Bytes.{byte}
 use Rattle.fields.specs.Ethernet.{ether_type, ethernet}
 use Rattle.fields.specs.Ipv4.{internet, protocol, transport}
 use Rattle.fields.specs.Transport.{tcp, udp, icmp}

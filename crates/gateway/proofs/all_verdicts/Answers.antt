@@ -1,13 +1,12 @@
 -- `gateway::all_verdicts` meets its contract. The invariant: the entries from i on decide for all. The measure is the number of them.
 -- Assumes nothing.
-use Prim.Native.Nat.{ℕ, suc, ◌-◌, ◌≤◌}
+use Prim.Native.Nat.{ℕ, suc}
 use mathlib.Core.Path.{◌≡◌, refl, sym, ap, ◌∙◌}
 use mathlib.Core.Bool.{Bool, ◌&&◌}
 use native.Mathlib.Omega.{arith}
 use native.Mathlib.Numerals.{add-one}
 use lib.ListN.{length, drop}
 use lib.Seq.{drop-length}
-use borrow.Author.Rules.{rules}
 use borrow.Author.Tests.{le-leb, lt-leb}
 use Rattle.gateway.specs.Gateway.{divert, all_verdicts}
 use Rattle.gateway.proofs.Verdicts.{verdicts_turn}
@@ -21,12 +20,12 @@ returns-then-verdicts-i-gt-DIVERT c = sym (sym c.loop-i.invariant.1 ∙ verdicts
 
 pub loop-i-preserved : goal.loop-i-preserved
 loop-i-preserved c = (
-      omega arith,
-      rw add-one
-          (ap (λ (b : Bool). b && all_verdicts (drop (suc c.loop-i.i) c.args.verdicts.now)) (sym (le-leb _ divert c.if-verdicts-i-gt-DIVERT.false)) ∙
-          sym (verdicts_turn c.args.verdicts.now c.loop-i.i c.loop-i-test.true) ∙
-          c.loop-i.invariant.1),
-    )
+  omega arith,
+  rw add-one
+      (ap (λ (b : Bool). b && all_verdicts (drop (suc c.loop-i.i) c.args.verdicts.now)) (sym (le-leb _ divert c.if-verdicts-i-gt-DIVERT.false)) ∙
+      sym (verdicts_turn c.args.verdicts.now c.loop-i.i c.loop-i-test.true) ∙
+      c.loop-i.invariant.1),
+)
 
 pub returns : goal.returns
 unfolding all_verdicts

@@ -1,16 +1,9 @@
 -- `gateway::all_verdicts` meets its contract. The invariant: the entries from i on decide for all. The measure is the number of them.
 -- Assumes nothing.
-use Prim.Native.Nat.{ℕ, suc, ◌-◌, ◌≤◌}
-use mathlib.Core.Path.{◌≡◌, refl, sym, ap, ◌∙◌}
-use mathlib.Core.Bool.{Bool, ◌&&◌}
-use native.Mathlib.Omega.{arith}
-use native.Mathlib.Numerals.{add-one}
+use Prim.Native.Nat.{◌-◌, ◌≤◌}
+use mathlib.Core.Path.{◌≡◌}
 use lib.ListN.{length, drop}
-use lib.Seq.{drop-length}
-use borrow.Author.Rules.{rules}
-use borrow.Author.Tests.{le-leb, lt-leb}
-use Rattle.gateway.specs.Gateway.{divert, all_verdicts}
-use Rattle.gateway.proofs.Verdicts.{verdicts_turn}
+use Rattle.gateway.specs.Gateway.{all_verdicts}
 use Rattle.gateway.proofs.all_verdicts.Given as goal
 
 abbrev pub invariant-loop-i : goal.invariant-loop-i

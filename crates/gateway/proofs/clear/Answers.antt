@@ -5,7 +5,6 @@ use mathlib.Core.Path.{ap, ◌∙◌}
 use mathlib.Core.List.{List, ◌++◌, append-nil}
 use lib.ListN.{length, replicate}
 use lib.Seq.{drop-length}
-use borrow.Author.Rules.{rules}
 use Rattle.words.specs.Lent.{cleared}
 use Rattle.gateway.proofs.clear.Goals as goal
 

@@ -1,7 +1,6 @@
 -- `gateway::count_frame` meets its contract: the tally at the place is read once, and it is full or one greater afterwards.
 -- Assumes nothing.
 use native.Mathlib.Omega.{arith}
-use borrow.Author.Rules.{rules}
 use borrow.Author.Tests.{eq-eqb, ne_eqb}
 use Rattle.gateway.specs.Gateway.{full_tally, counted_at}
 use Rattle.gateway.proofs.count_frame.Goals as goal

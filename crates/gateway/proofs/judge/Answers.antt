@@ -1,7 +1,6 @@
 -- `gateway::judge` meets its contract: each refusal is a case of the definition, and so is the walk.
 -- Assumes nothing.
 use mathlib.Core.Path.{sym, ◌∙◌}
-use borrow.Author.Rules.{rules}
 use Rattle.gateway.specs.laws.Judging.{judged_room, judged_verdicts, judged_walk}
 use Rattle.gateway.proofs.judge.Goals as goal
 

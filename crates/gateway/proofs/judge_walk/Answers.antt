@@ -3,7 +3,6 @@
 use Prim.Native.Nat.{ℕ}
 use mathlib.Core.Path.{ap, ◌∙◌}
 use native.Mathlib.Omega.{arith}
-use borrow.Author.Rules.{rules}
 use Rattle.gateway.specs.Gateway.{counted_at, judged_by}
 use Rattle.gateway.specs.laws.Lowest.{lowest_below}
 use Rattle.gateway.proofs.judge_walk.Goals as goal

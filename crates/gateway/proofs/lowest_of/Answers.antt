@@ -1,6 +1,5 @@
 -- `gateway::lowest_of` meets its contract: the zeros below the lowest bit are counted. Assumes nothing.
 use mathlib.Core.Path.{◌∙◌}
-use borrow.Author.Rules.{rules}
 use Rattle.gateway.proofs.Zeros.{zeros_lowest}
 use Rattle.gateway.proofs.lowest_of.Goals as goal
 

@@ -1,5 +1,4 @@
 -- `gateway::verdicts_fit` meets its contract: the first test that fails decides. Assumes nothing.
-use borrow.Author.Rules.{rules}
 use borrow.Author.Tests.{eq-eqb, ne_eqb, le-leb, lt-leb}
 use Rattle.lists.specs.Filters.{max_filters}
 use Rattle.gateway.specs.Gateway.{divert, verdicts_fit}

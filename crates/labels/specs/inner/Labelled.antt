@@ -5,7 +5,6 @@
 --   LabelledBy May fs t m   the first m records of the table t are given states of the list fs; May says what may be asked of a state
 use Rattle.std.specs.Prelude.{ℕ, ◌≤◌, ◌<◌, ◌≡◌, ◌⊎◌, Bool, false, ◌||◌, List, [], ◌∷◌}
 use Rattle.residue.specs.declared.Outcome.{Outcome}
-use Rattle.residue.specs.declared.Outcome.TheVariants.{Absent}
 use Rattle.fields.specs.Seen.{is_cut}
 use Rattle.fields.specs.declared.Seen.{Seen}
 use Rattle.lists.specs.Words.{item_words}

@@ -1,21 +1,12 @@
 -- `lamp::lamp_from` meets its contract. The loop's invariant: the words are those of the state that the walk has reached, and what is left of the walk answers the whole.
 -- A turn goes on by the state's own question, so one test fewer remains. Assumes nothing.
-use Prim.Native.Nat.{ℕ, ◌-◌, ◌*◌, ◌≤◌}
-use native.Mathlib.Omega.{arith}
-use mathlib.Core.Path.{◌≡◌, refl, sym, ap, ◌∙◌}
-use mathlib.Core.Bool.{not}
-use mathlib.Core.List.{[], ◌∷◌}
-use lib.Dec.{eqb}
+use Prim.Native.Nat.{◌-◌, ◌*◌}
+use mathlib.Core.Path.{◌≡◌}
 use lib.ListN.{length}
-use borrow.Author.Rules.{rules}
 use Rattle.fields.specs.Header.{reading_at}
-use Rattle.lists.specs.Filters.{max_filters, filters_of, tests_in}
-use Rattle.lists.specs.laws.Accepted.{accepted_count, accepted_well}
-use Rattle.lists.specs.laws.Ranking.{length_rank_sets}
+use Rattle.lists.specs.Filters.{filters_of, tests_in}
 use Rattle.slots.specs.Words.{filter_slot}
-use Rattle.slots.specs.laws.Written.{start_accepted}
-use Rattle.lamp.specs.inner.Records.{Lighting}
-use Rattle.lamp.proofs.Steps.{Walking, copied, walking_start, ended_here, Asking, asking, gone_astray, fewer_left, gone_on}
+use Rattle.lamp.proofs.Steps.{Walking}
 use Rattle.lamp.proofs.lamp_from.Given as goal
 
 abbrev pub invariant-loop-q : goal.invariant-loop-q

@@ -4,7 +4,6 @@ use mathlib.Core.Path.{ap}
 use mathlib.Core.Bool.{◌||◌}
 use Prim.Native.Nat.{ℕ}
 use lib.Dec.{eqb, ltb}
-use borrow.Author.Rules.{rules}
 use Rattle.tables.specs.Tables.{slots_of}
 use Rattle.lamp.proofs.misfits.Goals as goal
 

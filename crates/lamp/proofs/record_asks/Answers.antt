@@ -1,6 +1,5 @@
 -- `lamp::record_asks` meets its contract. The tests are those of `record_asks`, in its order.
 -- Assumes nothing.
-use borrow.Author.Rules.{rules}
 use borrow.Author.Tests.{eq-eqb, ne_eqb}
 use Rattle.tables.specs.Tables.{word_of}
 use Rattle.lamp.specs.inner.Records.{record_asks}

@@ -11,7 +11,6 @@ use Rattle.residue.specs.declared.Reading.TheVariants.{Value}
 use Rattle.residue.specs.declared.Test.{Test}
 use Rattle.lists.specs.Filters.{item_of}
 use Rattle.states.specs.Runs.{way_of}
-use borrow.Author.Rules.{rules}
 use Rattle.lamp.proofs.way_of.Goals as goal
 
 -- The outcome on a value, by a test that was read and worked out.

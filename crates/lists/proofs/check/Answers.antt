@@ -1,17 +1,16 @@
 -- `lists::check` meets its contract. The invariant: reading on from here gives what reading the whole list gives.
 -- The measure is the number of words left.
 -- Assumes nothing.
-use Rattle.lists.specs.Filters.{max_filters, max_tests}
-use Prim.Native.Nat.{ℕ, ◌-◌, ◌*◌, ◌≤◌, ◌<◌}
+use Rattle.lists.specs.Filters.{max_filters}
+use Prim.Native.Nat.{ℕ, ◌-◌, ◌<◌}
 use mathlib.Core.Path.{◌≡◌, refl, sym, ap, ◌∙◌}
 use native.Mathlib.Omega.{arith}
-use lib.ListN.{length, drop, drop_of_length-le}
+use lib.ListN.{drop, drop_of_length-le}
 use Rattle.lists.specs.Refusals.{filter_fault, listed_from, listed}
 use Rattle.lists.specs.laws.Faults.{no_fault}
 use Rattle.lists.specs.laws.Walking.{listed_end, Here, sound_here}
 use Rattle.lists.specs.declared.Listed.TheVariants.{Refused}
 use Rattle.lists.proofs.Turns.{list_turn, list_found, list_over, rest_is}
-use borrow.Author.Rules.{rules}
 use Rattle.lists.proofs.check.Goals as goal
 use Rattle.lists.proofs.check.Goals.{After-filter_fault-fault, Else-fault-ne0}
 

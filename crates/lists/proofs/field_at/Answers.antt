@@ -2,7 +2,6 @@
 -- Assumes nothing.
 use lib.Seq.{get_or-drop}
 use Rattle.lists.specs.Filters.{item_of}
-use borrow.Author.Rules.{rules}
 use Rattle.lists.proofs.field_at.Goals as goal
 
 pub returns : goal.returns

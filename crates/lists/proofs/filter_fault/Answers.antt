@@ -10,7 +10,6 @@ use borrow.Author.Tests.{lt-ltb, le-ltb}
 use Rattle.lists.specs.Filters.{max_tests, max_rank, head_words, group_word, level_word, count_word, filter_words}
 use Rattle.lists.specs.Refusals.{tests_fault, filter_fault}
 use Rattle.lists.proofs.Turns.{rest_is}
-use borrow.Author.Rules.{rules}
 use Rattle.lists.proofs.filter_fault.Goals as goal
 
 module _ (ws : List ℕ) where

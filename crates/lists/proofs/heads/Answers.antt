@@ -1,13 +1,10 @@
 -- `lists::heads` meets its contract. The invariant: what is written and what is still to be read make the list's groups and levels.
 -- The measure is the number of filters that may still come.
 -- Assumes nothing.
-use Rattle.lists.specs.Filters.{max_filters}
 use mathlib.Core.Path.{sym, ◌∙◌}
-use Prim.Native.Nat.{◌-◌}
 use native.Mathlib.Omega.{arith}
 use lib.ListN.{length}
-use Rattle.lists.proofs.Columns.{Partway, partway_start, partway_turn, partway_end, goes_on}
-use borrow.Author.Rules.{rules}
+use Rattle.lists.proofs.Columns.{partway_start, partway_turn, partway_end, goes_on}
 use Rattle.lists.proofs.heads.Goals as goal
 
 pub loop-n-init : goal.loop-n-init

@@ -2,12 +2,8 @@
 -- The measure is the number of filters that may still come.
 -- Assumes nothing.
 use Rattle.lists.specs.Filters.{max_filters}
-use mathlib.Core.Path.{sym, ◌∙◌}
 use Prim.Native.Nat.{◌-◌}
-use native.Mathlib.Omega.{arith}
-use lib.ListN.{length}
-use Rattle.lists.proofs.Columns.{Partway, partway_start, partway_turn, partway_end, goes_on}
-use borrow.Author.Rules.{rules}
+use Rattle.lists.proofs.Columns.{Partway}
 use Rattle.lists.proofs.heads.Given as goal
 
 abbrev pub invariant-loop-n : goal.invariant-loop-n

@@ -2,7 +2,6 @@
 -- Assumes nothing.
 use borrow.Author.Tests.{lt-ltb, le-ltb}
 use Rattle.lists.specs.inner.Columns.{rank_set_by}
-use borrow.Author.Rules.{rules}
 use Rattle.lists.proofs.rank_set.Goals as goal
 
 pub returns-then-i-n : goal.returns-then-i-n

@@ -3,7 +3,6 @@
 use mathlib.Core.Path.{◌∙◌}
 use Rattle.lists.specs.Filters.{filters_of}
 use Rattle.lists.proofs.Columns.{ranks_agree}
-use borrow.Author.Rules.{rules}
 use Rattle.lists.proofs.rank_sets.Goals as goal
 
 pub returns : goal.returns

@@ -4,7 +4,6 @@ use mathlib.Core.Path.{◌∙◌}
 use native.Mathlib.Nat.{add-zero}
 use lib.Seq.{get_or-drop}
 use Rattle.lists.specs.Filters.{item_of}
-use borrow.Author.Rules.{rules}
 use Rattle.lists.proofs.test_at.Goals as goal
 
 pub returns : goal.returns

@@ -3,14 +3,11 @@
 -- Assumes nothing.
 use mathlib.Core.Path.{refl}
 use Rattle.lists.specs.Refusals.{words_fault}
-use Prim.Native.Nat.{◌+◌, ◌*◌, ◌≤◌}
 use mathlib.Core.Path.{◌≡◌, sym, ◌∙◌}
 use native.Mathlib.Omega.{arith}
-use lib.ListN.{length, drop}
-use Rattle.lists.specs.Filters.{test_words}
+use lib.ListN.{drop}
 use Rattle.lists.specs.Refusals.{tests_fault}
 use Rattle.lists.proofs.Turns.{tests_turn, tests_found}
-use borrow.Author.Rules.{rules}
 use Rattle.lists.proofs.tests_fault.Goals as goal
 
 pub loop-left-init : goal.loop-left-init
@@ -29,9 +26,9 @@ overflow_add-at c = omega (arith, c.loop-left.invariant.0)
 
 pub loop-left-preserved : goal.loop-left-preserved
 loop-left-preserved c = (
-      omega (arith, c.loop-left.invariant.0, c.loop-left-test.true),
-      sym (tests_turn c.args.words.now c.loop-left.at c.loop-left.left c.loop-left-test.true (sym c.words_fault-fault.ensures ∙ c.if-fault-ne0.false)) ∙ c.loop-left.invariant.1,
-    )
+  omega (arith, c.loop-left.invariant.0, c.loop-left-test.true),
+  sym (tests_turn c.args.words.now c.loop-left.at c.loop-left.left c.loop-left-test.true (sym c.words_fault-fault.ensures ∙ c.if-fault-ne0.false)) ∙ c.loop-left.invariant.1,
+)
 
 pub returns : goal.returns
 unfolding tests_fault

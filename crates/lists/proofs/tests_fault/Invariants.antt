@@ -1,16 +1,11 @@
 -- `lists::tests_fault` meets its contract. The invariant: the tests left have the whole run's first fault, and their words are there.
 -- The measure is the number of tests left.
 -- Assumes nothing.
-use mathlib.Core.Path.{refl}
-use Rattle.lists.specs.Refusals.{words_fault}
 use Prim.Native.Nat.{◌+◌, ◌*◌, ◌≤◌}
-use mathlib.Core.Path.{◌≡◌, sym, ◌∙◌}
-use native.Mathlib.Omega.{arith}
+use mathlib.Core.Path.{◌≡◌}
 use lib.ListN.{length, drop}
 use Rattle.lists.specs.Filters.{test_words}
 use Rattle.lists.specs.Refusals.{tests_fault}
-use Rattle.lists.proofs.Turns.{tests_turn, tests_found}
-use borrow.Author.Rules.{rules}
 use Rattle.lists.proofs.tests_fault.Given as goal
 
 abbrev pub invariant-loop-left : goal.invariant-loop-left

@@ -2,7 +2,6 @@
 -- Assumes nothing.
 use mathlib.Core.Path.{◌∙◌}
 use Rattle.lists.proofs.Turns.{words_at}
-use borrow.Author.Rules.{rules}
 use Rattle.lists.proofs.words_fault.Goals as goal
 
 pub returns : goal.returns

@@ -2,15 +2,13 @@
 -- The measure is the number of sets left.
 -- Assumes nothing.
 use Rattle.lists.specs.Filters.{max_filters}
-use Prim.Native.Nat.{◌-◌, ◌≤◌}
 use mathlib.Core.Path.{◌≡◌, refl, sym, ◌∙◌}
 use native.Mathlib.Omega.{arith}
-use lib.ListN.{length, take, length-set}
+use lib.ListN.{length-set}
 use lib.Seq.{take_all}
 use Rattle.sets.specs.Sets.{tally}
 use Rattle.lists.specs.inner.Columns.{rank_set_by}
 use Rattle.lists.proofs.Columns.{tally_turn}
-use borrow.Author.Rules.{rules}
 use Rattle.lists.proofs.write_ranks.Goals as goal
 
 pub loop-i-init : goal.loop-i-init
@@ -22,10 +20,10 @@ bounds-sets-i c = omega arith
 
 pub loop-i-preserved : goal.loop-i-preserved
 loop-i-preserved c = (
-      omega arith,
-      length-set c.loop-i.sets c.loop-i.i c.rank_set.result ∙ c.loop-i.invariant.1,
-      tally_turn (rank_set_by c.args.groups.now c.args.levels.now c.args.n) c.loop-i.sets c.loop-i.i c.rank_set.result (omega arith) c.rank_set.ensures c.loop-i.invariant.2,
-    )
+  omega arith,
+  length-set c.loop-i.sets c.loop-i.i c.rank_set.result ∙ c.loop-i.invariant.1,
+  tally_turn (rank_set_by c.args.groups.now c.args.levels.now c.args.n) c.loop-i.sets c.loop-i.i c.rank_set.result (omega arith) c.rank_set.ensures c.loop-i.invariant.2,
+)
 
 pub shape_of-sets : goal.shape_of-sets
 shape_of-sets c = c.loop-i.invariant.1 ∙ sym c.requires.1

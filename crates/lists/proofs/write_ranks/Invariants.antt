@@ -3,14 +3,10 @@
 -- Assumes nothing.
 use Rattle.lists.specs.Filters.{max_filters}
 use Prim.Native.Nat.{◌-◌, ◌≤◌}
-use mathlib.Core.Path.{◌≡◌, refl, sym, ◌∙◌}
-use native.Mathlib.Omega.{arith}
-use lib.ListN.{length, take, length-set}
-use lib.Seq.{take_all}
+use mathlib.Core.Path.{◌≡◌}
+use lib.ListN.{length, take}
 use Rattle.sets.specs.Sets.{tally}
 use Rattle.lists.specs.inner.Columns.{rank_set_by}
-use Rattle.lists.proofs.Columns.{tally_turn}
-use borrow.Author.Rules.{rules}
 use Rattle.lists.proofs.write_ranks.Given as goal
 
 abbrev pub invariant-loop-i : goal.invariant-loop-i

@@ -2,11 +2,7 @@
 -- still be taken of the questions leads to no record beyond the states. What is left of them falls by one for each link.
 -- Assumes nothing.
 use Prim.Native.Nat.{◌+◌, ◌-◌, ◌*◌, ◌<◌}
-use mathlib.Core.Path.{sym, ◌∙◌}
-use borrow.Author.Rules.{rules}
-use borrow.Author.Tests.{not-false}
 use Rattle.matcher.specs.inner.Chains.{Chained}
-use Rattle.matcher.proofs.Linked.{chained_none, chained_more}
 use Rattle.matcher.proofs.chain.Given as goal
 
 abbrev pub invariant-loop-left : goal.invariant-loop-left

@@ -1,6 +1,5 @@
 -- `matcher::end` meets its contract. A final record is never damaged; of any other the code tests what `end_at` tests.
 -- Assumes nothing.
-use borrow.Author.Rules.{rules}
 use borrow.Author.Tests.{ne_eqb}
 use Rattle.matcher.specs.Walk.{arrive}
 use Rattle.matcher.specs.inner.Records.{found_in, end_at}

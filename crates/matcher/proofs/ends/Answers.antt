@@ -1,6 +1,5 @@
 -- `matcher::ends` meets its contract. The tests are those of `ends_at`, in its order.
 -- Assumes nothing.
-use borrow.Author.Rules.{rules}
 use borrow.Author.Tests.{ne_eqb, lt-ltb, le-ltb}
 use Rattle.matcher.specs.inner.Records.{ends_at}
 use Rattle.matcher.proofs.ends.Goals as goal

@@ -1,6 +1,5 @@
 -- `matcher::links` meets its contract. The tests are those of `links_at`, in its order.
 -- Assumes nothing.
-use borrow.Author.Rules.{rules}
 use borrow.Author.Tests.{eq-eqb, ne_eqb}
 use Rattle.matcher.specs.inner.Chains.{links_at}
 use Rattle.matcher.proofs.links.Goals as goal

@@ -1,6 +1,5 @@
 -- `matcher::marked` meets its contract: an empty set meets none, and of any other the frame tells which of its fields are cut.
 -- Assumes nothing.
-use borrow.Author.Rules.{rules}
 use mathlib.Core.Path.{sym}
 use Rattle.matcher.specs.inner.Records.{meets}
 use Rattle.matcher.proofs.Meeting.{unmet}

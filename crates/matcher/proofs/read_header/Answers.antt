@@ -1,6 +1,5 @@
 -- `matcher::read_header` meets its contract: its steps make a header.
 -- Assumes nothing.
-use borrow.Author.Rules.{rules}
 use Rattle.fields.specs.laws.Filling.{header_by_steps}
 use Rattle.matcher.proofs.read_header.Goals as goal
 

@@ -2,7 +2,6 @@
 -- reads every field as the frame has it. Assumes nothing.
 use native.Mathlib.Nat.{pos_of_ne-zero}
 use mathlib.Core.Path.{refl, sym, ◌∙◌}
-use borrow.Author.Rules.{rules}
 use borrow.Author.Tests.{lt-ltb, le-ltb}
 use Rattle.matcher.specs.laws.Walks.{walk_long, walk_none, walk_misfit, walk_fits}
 use Rattle.fields.specs.laws.CutSet.{seen_once}
@@ -24,11 +23,11 @@ returns-then-table-states c = sym
 
 pub walk_from-requires : goal.walk_from-requires
 walk_from-requires c = record {
-      begins = pos_of_ne-zero c.if-states-eq0.false;
-      few = c.if-states-gt-MAX_STATES.false;
-      in_bounds = c.if-table-states.false;
-      is_read = (_, c.read_header-present.ensures.set);
-    }
+  begins = pos_of_ne-zero c.if-states-eq0.false;
+  few = c.if-states-gt-MAX_STATES.false;
+  in_bounds = c.if-table-states.false;
+  is_read = (_, c.read_header-present.ensures.set);
+}
 
 pub returns : goal.returns
 returns c = let once = seen_once refl c.read_header-present.ensures refl in

@@ -20,7 +20,7 @@ use Rattle.matcher.specs.Walk.{next_of, cut_of}
 use Rattle.matcher.specs.inner.Records.{meets}
 use Rattle.matcher.proofs.Linked.{walked_on}
 use Rattle.matcher.proofs.Meeting.{unmet, meets_more}
-use Rattle.matcher.proofs.Steps.{Walking, Asking, read, ended, asking, lost, moved, way_absent, mark_absent, mark_stays, way_holds, way_fails}
+use Rattle.matcher.proofs.Steps.{Asking, read, ended, asking, lost, moved, way_absent, mark_absent, mark_stays, way_holds, way_fails}
 use Rattle.matcher.proofs.walk_from.Goals as goal
 use Rattle.matcher.proofs.walk_from.Goals.{After-holds_word, Else-ends, Else-holds_word, In_default, Then-holds_word}
 

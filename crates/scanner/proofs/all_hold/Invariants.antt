@@ -1,17 +1,11 @@
 -- `scanner::all_hold` meets its contract. The invariant: what the tests still to come say is what all of them say.
 -- The measure is the number of tests left. Assumes nothing.
-use Prim.Native.Nat.{ℕ, ◌+◌, ◌-◌, ◌*◌, ◌≤◌}
-use mathlib.Core.Path.{◌≡◌, sym, ap, ap₂, ◌∙◌}
-use mathlib.Core.Bool.{Bool, ◌&&◌}
-use native.Mathlib.Nat.{sub-zero, add-zero}
-use native.Mathlib.Omega.{arith}
+use Prim.Native.Nat.{◌+◌, ◌-◌, ◌*◌, ◌≤◌}
+use mathlib.Core.Path.{◌≡◌}
 use lib.ListN.{drop}
-use borrow.Author.Tests.{not-true, not-false}
 use Rattle.fields.specs.Header.{reading_at}
 use Rattle.lists.specs.Filters.{test_words, items_of}
 use Rattle.lists.specs.Ranks.{all_hold}
-use Rattle.scanner.proofs.Scanning.{tests_turn, tests_end}
-use borrow.Author.Rules.{rules}
 use Rattle.scanner.proofs.all_hold.Given as goal
 
 abbrev pub invariant-loop-test : goal.invariant-loop-test

@@ -1,14 +1,9 @@
 -- `scanner::beaten` meets its contract. The invariant: none of the filters passed beats it. The measure is the number of filters left.
 -- Assumes nothing.
 use Prim.Native.Nat.{◌-◌, ◌≤◌}
-use mathlib.Core.Path.{◌≡◌, refl, sym, ap₂, ◌∙◌}
-use mathlib.Core.Bool.{Bool, false, ◌||◌}
-use native.Mathlib.Numerals.{add-one}
-use native.Mathlib.Omega.{arith}
-use Rattle.sets.specs.Sets.{some}
-use Rattle.sets.specs.laws.Members.{some_true}
+use mathlib.Core.Path.{◌≡◌}
+use mathlib.Core.Bool.{false}
 use Rattle.scanner.specs.inner.Standing.{beaten_by}
-use borrow.Author.Rules.{rules}
 use Rattle.scanner.proofs.beaten.Given as goal
 
 abbrev pub invariant-loop-j : goal.invariant-loop-j

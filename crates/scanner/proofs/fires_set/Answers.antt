@@ -1,6 +1,6 @@
 -- `scanner::fires_set` meets its contract. The invariant: the next filter begins at the place, and the set is the tally of the filters passed.
 -- The measure is the number of filters left. Assumes nothing.
-use Prim.Native.Nat.{ℕ, ◌+◌, ◌-◌, ◌*◌, ◌^◌, ◌≤◌}
+use Prim.Native.Nat.{ℕ, ◌+◌, ◌*◌, ◌^◌, ◌≤◌}
 use mathlib.Core.Path.{◌≡◌, refl, sym, ap, ap₂, ◌∙◌}
 use mathlib.Core.Bool.{Bool}
 use native.Mathlib.Omega.{arith}
@@ -11,9 +11,8 @@ use Rattle.fields.specs.Header.{reading_at}
 use Rattle.lists.specs.Filters.{max_filters, filters_of}
 use Rattle.lists.specs.Ranks.{fires}
 use Rattle.lists.specs.laws.Accepted.{accepted_count}
-use Rattle.lists.specs.laws.Walking.{Here, At, at_start, at_here, at_next}
+use Rattle.lists.specs.laws.Walking.{Here, at_start, at_here, at_next}
 use Rattle.scanner.proofs.Scanning.{fires_here}
-use borrow.Author.Rules.{rules}
 use Rattle.scanner.proofs.fires_set.Goals as goal
 use Rattle.scanner.proofs.fires_set.Goals.{In-loop-i}
 

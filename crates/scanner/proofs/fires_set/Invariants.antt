@@ -1,19 +1,12 @@
 -- `scanner::fires_set` meets its contract. The invariant: the next filter begins at the place, and the set is the tally of the filters passed.
 -- The measure is the number of filters left. Assumes nothing.
-use Prim.Native.Nat.{ℕ, ◌+◌, ◌-◌, ◌*◌, ◌^◌, ◌≤◌}
-use mathlib.Core.Path.{◌≡◌, refl, sym, ap, ap₂, ◌∙◌}
-use mathlib.Core.Bool.{Bool}
-use native.Mathlib.Omega.{arith}
-use native.Mathlib.Nat.{le_refl}
-use Rattle.sets.specs.Sets.{bit, set_of, tally}
-use Rattle.sets.specs.laws.Members.{tally_put, tally_bound}
+use Prim.Native.Nat.{◌-◌, ◌≤◌}
+use mathlib.Core.Path.{◌≡◌}
+use Rattle.sets.specs.Sets.{set_of, tally}
 use Rattle.fields.specs.Header.{reading_at}
-use Rattle.lists.specs.Filters.{max_filters, filters_of}
+use Rattle.lists.specs.Filters.{filters_of}
 use Rattle.lists.specs.Ranks.{fires}
-use Rattle.lists.specs.laws.Accepted.{accepted_count}
-use Rattle.lists.specs.laws.Walking.{Here, At, at_start, at_here, at_next}
-use Rattle.scanner.proofs.Scanning.{fires_here}
-use borrow.Author.Rules.{rules}
+use Rattle.lists.specs.laws.Walking.{At}
 use Rattle.scanner.proofs.fires_set.Given as goal
 
 abbrev pub invariant-loop-i : goal.invariant-loop-i

@@ -4,7 +4,6 @@ use mathlib.Core.Path.{sym, ap, ◌∙◌}
 use Rattle.residue.specs.Tests.{holds, holds_of}
 use Rattle.residue.specs.declared.Test.{Test}
 use Rattle.fields.specs.Header.{reading_at}
-use borrow.Author.Rules.{rules}
 use Rattle.scanner.proofs.holds_at.Goals as goal
 
 pub returns-in_default : goal.returns-in_default

@@ -1,6 +1,5 @@
 -- `scanner::lone` meets its contract: 0 less 1 is 0 in the definition, so the empty set passes there too.
 -- Assumes nothing.
-use borrow.Author.Rules.{rules}
 use Rattle.scanner.proofs.lone.Goals as goal
 
 pub returns-then-set-eq0 : goal.returns-then-set-eq0

@@ -3,7 +3,6 @@
 use mathlib.Core.Path.{sym, ap, ◌∙◌}
 use Rattle.scanner.specs.declared.Scanned.TheVariants.{Matched}
 use Rattle.scanner.specs.laws.Scans.{scanned_refused, scanned_long, scanned_set}
-use borrow.Author.Rules.{rules}
 use Rattle.scanner.proofs.scan.Goals as goal
 
 pub returns-then-frame-gt-MAX_FRAME : goal.returns-then-frame-gt-MAX_FRAME

@@ -4,7 +4,6 @@ use mathlib.Core.Path.{refl, sym, ◌∙◌}
 use Rattle.fields.specs.laws.Header.{read_once}
 use Rattle.lists.specs.laws.Accepted.{accepted_count}
 use Rattle.scanner.proofs.Tops.{top_held, lone_held}
-use borrow.Author.Rules.{rules}
 use Rattle.scanner.proofs.scan_accepted.Goals as goal
 
 pub returns-then-lone : goal.returns-then-lone

@@ -1,7 +1,7 @@
 -- `scanner::standing` meets its contract. The invariant: the set is the tally of the filters passed.
 -- The measure is the number of filters left.
 -- Assumes nothing.
-use Prim.Native.Nat.{ℕ, ◌+◌, ◌-◌, ◌*◌, ◌^◌, ◌≤◌}
+use Prim.Native.Nat.{ℕ, ◌+◌, ◌*◌, ◌^◌}
 use mathlib.Core.Bool.{Bool}
 use mathlib.Core.Path.{◌≡◌, refl, sym, ap, ap₂, ◌∙◌}
 use native.Mathlib.Nat.{le_refl}
@@ -9,7 +9,6 @@ use native.Mathlib.Omega.{arith}
 use Rattle.sets.specs.Sets.{bit, set_of, tally}
 use Rattle.sets.specs.laws.Members.{tally_bound, tally_put}
 use Rattle.scanner.specs.inner.Standing.{stands_by}
-use borrow.Author.Rules.{rules}
 use Rattle.scanner.proofs.standing.Goals as goal
 
 pub loop-i-init : goal.loop-i-init
@@ -21,11 +20,11 @@ put-set-requires c = (omega arith, rw c.loop-i.invariant.1 (tally_bound c.loop-i
 
 pub loop-i-preserved : goal.loop-i-preserved
 loop-i-preserved c = (
-      omega arith,
-      c.put-set.ensures ∙
-          ap₂ (λ (x : Bool) (y : ℕ). bit x * 2 ^ c.loop-i.i + y) c.stands.ensures c.loop-i.invariant.1 ∙
-          sym (tally_put c.loop-i.i (stands_by c.args.groups.now c.args.levels.now c.args.n c.args.held)),
-    )
+  omega arith,
+  c.put-set.ensures ∙
+      ap₂ (λ (x : Bool) (y : ℕ). bit x * 2 ^ c.loop-i.i + y) c.stands.ensures c.loop-i.invariant.1 ∙
+      sym (tally_put c.loop-i.i (stands_by c.args.groups.now c.args.levels.now c.args.n c.args.held)),
+)
 
 pub returns : goal.returns
 returns c = let z : c.loop-i.i ≡ c.args.n = omega arith in

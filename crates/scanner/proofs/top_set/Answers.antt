@@ -3,7 +3,6 @@
 use mathlib.Core.Path.{◌∙◌}
 use Rattle.lists.specs.Filters.{filters_of}
 use Rattle.scanner.proofs.Tops.{top_columns}
-use borrow.Author.Rules.{rules}
 use Rattle.scanner.proofs.top_set.Goals as goal
 
 pub returns : goal.returns

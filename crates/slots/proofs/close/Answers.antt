@@ -3,7 +3,6 @@
 use Rattle.slots.specs.inner.Slots.{closed_in, closed_words}
 use Rattle.slots.proofs.Parts.{closed_by_none}
 use mathlib.Core.Path.{sym, ap, ◌∙◌}
-use borrow.Author.Rules.{rules}
 use Rattle.slots.proofs.close.Goals as goal
 
 pub returns-then-held-eq0 : goal.returns-then-held-eq0

@@ -1,15 +1,11 @@
 -- `slots::close_by` meets its contract. The loop's invariant: the words up to filter i, then the rest closed, are the whole.
 -- Assumes nothing.
-use native.Mathlib.Nat.{sub-zero}
-use Rattle.slots.proofs.Parts.{part_long, close_turn, closed_none, lent_long, room, done}
 use Rattle.slots.specs.inner.Slots.{closed_in}
 use Rattle.slots.specs.Words.{filter_slot}
 use lib.ListN.{length, take, drop}
-use native.Mathlib.Omega.{arith}
 use mathlib.Core.List.{◌++◌}
-use mathlib.Core.Path.{◌≡◌, sym, ap, ◌∙◌}
+use mathlib.Core.Path.{◌≡◌}
 use Prim.Native.Nat.{◌≤◌, ◌*◌, ◌-◌}
-use borrow.Author.Rules.{rules}
 use Rattle.slots.proofs.close_by.Given as goal
 
 abbrev pub invariant-loop-i : goal.invariant-loop-i

@@ -4,12 +4,11 @@ use native.Mathlib.Nat.{sub-zero}
 use Rattle.slots.proofs.Parts.{part_long, cut_turn, cut_none, lent_long, room, done}
 use Rattle.slots.specs.inner.Slots.{cut_words}
 use Rattle.slots.specs.Words.{filter_slot}
-use lib.ListN.{length, take, drop}
+use lib.ListN.{take, drop}
 use native.Mathlib.Omega.{arith}
 use mathlib.Core.List.{◌++◌}
-use mathlib.Core.Path.{◌≡◌, sym, ap, ◌∙◌}
-use Prim.Native.Nat.{◌≤◌, ◌*◌, ◌-◌}
-use borrow.Author.Rules.{rules}
+use mathlib.Core.Path.{sym, ap, ◌∙◌}
+use Prim.Native.Nat.{◌*◌}
 use Rattle.slots.proofs.cut_all.Goals as goal
 
 pub loop-i-init : goal.loop-i-init

@@ -1,15 +1,11 @@
 -- `slots::cut_all` meets its contract. The loop's invariant: what is written, then what the rest is cut to, is the whole.
 -- Assumes nothing.
-use native.Mathlib.Nat.{sub-zero}
-use Rattle.slots.proofs.Parts.{part_long, cut_turn, cut_none, lent_long, room, done}
 use Rattle.slots.specs.inner.Slots.{cut_words}
 use Rattle.slots.specs.Words.{filter_slot}
 use lib.ListN.{length, take, drop}
-use native.Mathlib.Omega.{arith}
 use mathlib.Core.List.{◌++◌}
-use mathlib.Core.Path.{◌≡◌, sym, ap, ◌∙◌}
+use mathlib.Core.Path.{◌≡◌}
 use Prim.Native.Nat.{◌≤◌, ◌*◌, ◌-◌}
-use borrow.Author.Rules.{rules}
 use Rattle.slots.proofs.cut_all.Given as goal
 
 abbrev pub invariant-loop-i : goal.invariant-loop-i

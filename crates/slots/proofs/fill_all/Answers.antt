@@ -6,13 +6,12 @@ use Rattle.slots.specs.Words.{filter_slot}
 use Rattle.slots.specs.inner.Words.{written}
 use Rattle.states.specs.States.{all_left}
 use Rattle.lists.specs.Filters.{filters_of}
-use Rattle.lists.specs.laws.Walking.{Here, At, at_start, at_here, at_next}
-use lib.ListN.{length, take, drop}
+use Rattle.lists.specs.laws.Walking.{Here, at_start, at_here, at_next}
+use lib.ListN.{take}
 use native.Mathlib.Omega.{arith}
 use mathlib.Core.List.{◌++◌, map}
-use mathlib.Core.Path.{◌≡◌, refl, sym, ap, ◌∙◌}
-use Prim.Native.Nat.{◌≤◌, ◌+◌, ◌*◌, ◌-◌}
-use borrow.Author.Rules.{rules}
+use mathlib.Core.Path.{refl, sym, ap, ◌∙◌}
+use Prim.Native.Nat.{◌+◌, ◌*◌, ◌-◌}
 use Rattle.slots.proofs.fill_all.Goals as goal
 use Rattle.slots.proofs.fill_all.Goals.{In-loop-i}
 

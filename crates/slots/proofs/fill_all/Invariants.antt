@@ -1,18 +1,14 @@
 -- `slots::fill_all` meets its contract. The loop's invariant: the filters that are written, then those from the one at which the loop stands in the list, are all of them.
 -- Assumes nothing.
-use Rattle.slots.proofs.Starting.{fill_turn, fill_end}
-use Rattle.slots.proofs.Parts.{part_long, room, lent_long, done}
 use Rattle.slots.specs.Words.{filter_slot}
 use Rattle.slots.specs.inner.Words.{written}
 use Rattle.states.specs.States.{all_left}
 use Rattle.lists.specs.Filters.{filters_of}
-use Rattle.lists.specs.laws.Walking.{Here, At, at_start, at_here, at_next}
+use Rattle.lists.specs.laws.Walking.{At}
 use lib.ListN.{length, take, drop}
-use native.Mathlib.Omega.{arith}
 use mathlib.Core.List.{◌++◌, map}
-use mathlib.Core.Path.{◌≡◌, refl, sym, ap, ◌∙◌}
-use Prim.Native.Nat.{◌≤◌, ◌+◌, ◌*◌, ◌-◌}
-use borrow.Author.Rules.{rules}
+use mathlib.Core.Path.{◌≡◌}
+use Prim.Native.Nat.{◌≤◌, ◌*◌, ◌-◌}
 use Rattle.slots.proofs.fill_all.Given as goal
 
 abbrev pub invariant-loop-i : goal.invariant-loop-i

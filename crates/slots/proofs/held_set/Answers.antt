@@ -2,7 +2,6 @@
 -- Assumes nothing.
 use Rattle.slots.specs.inner.Steps.{marked_set}
 use Rattle.slots.specs.inner.Slots.{held_set}
-use borrow.Author.Rules.{rules}
 use Rattle.slots.proofs.held_set.Goals as goal
 
 pub returns : goal.returns

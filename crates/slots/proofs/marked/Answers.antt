@@ -5,8 +5,6 @@ use Rattle.slots.specs.inner.Steps.{marked_set}
 use Rattle.sets.specs.Sets.{set_of, tally}
 use native.Mathlib.Omega.{arith}
 use mathlib.Core.Path.{◌≡◌, refl, ap, ◌∙◌}
-use Prim.Native.Nat.{◌≤◌, ◌-◌}
-use borrow.Author.Rules.{rules}
 use Rattle.slots.proofs.marked.Goals as goal
 
 pub loop-i-init : goal.loop-i-init

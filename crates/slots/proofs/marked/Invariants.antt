@@ -1,12 +1,8 @@
 -- `slots::marked` meets its contract. The loop's invariant: the set holds the marked filters below i.
 -- Assumes nothing.
-use Rattle.slots.proofs.Sets.{marked_more, marked_bound}
 use Rattle.slots.specs.inner.Steps.{marked_set}
-use Rattle.sets.specs.Sets.{set_of, tally}
-use native.Mathlib.Omega.{arith}
-use mathlib.Core.Path.{◌≡◌, refl, ap, ◌∙◌}
+use mathlib.Core.Path.{◌≡◌}
 use Prim.Native.Nat.{◌≤◌, ◌-◌}
-use borrow.Author.Rules.{rules}
 use Rattle.slots.proofs.marked.Given as goal
 
 abbrev pub invariant-loop-i : goal.invariant-loop-i

@@ -2,7 +2,6 @@
 -- Assumes nothing.
 use Rattle.slots.specs.inner.Steps.{marked_set}
 use Rattle.slots.specs.inner.Slots.{out_set_in}
-use borrow.Author.Rules.{rules}
 use Rattle.slots.proofs.out_set.Goals as goal
 
 pub returns : goal.returns

@@ -6,9 +6,8 @@ use Rattle.slots.specs.Words.{filter_slot}
 use lib.ListN.{drop}
 use native.Mathlib.Nat.{sub-zero}
 use native.Mathlib.Omega.{arith}
-use mathlib.Core.Path.{◌≡◌, sym, ap, ◌∙◌}
-use Prim.Native.Nat.{◌≤◌, ◌*◌, ◌-◌}
-use borrow.Author.Rules.{rules}
+use mathlib.Core.Path.{sym, ap, ◌∙◌}
+use Prim.Native.Nat.{◌*◌}
 use Rattle.slots.proofs.question_of.Goals as goal
 
 pub loop-i-init : goal.loop-i-init

@@ -1,14 +1,10 @@
 -- `slots::question_of` meets its contract. The loop's invariant: no filter passed has a test, so the question is that of the rest.
 -- Assumes nothing.
-use Rattle.slots.proofs.Questions.{question_here, question_more, question_none}
 use Rattle.slots.specs.inner.Slots.{question_in}
 use Rattle.slots.specs.Words.{filter_slot}
 use lib.ListN.{drop}
-use native.Mathlib.Nat.{sub-zero}
-use native.Mathlib.Omega.{arith}
-use mathlib.Core.Path.{◌≡◌, sym, ap, ◌∙◌}
+use mathlib.Core.Path.{◌≡◌}
 use Prim.Native.Nat.{◌≤◌, ◌*◌, ◌-◌}
-use borrow.Author.Rules.{rules}
 use Rattle.slots.proofs.question_of.Given as goal
 
 abbrev pub invariant-loop-i : goal.invariant-loop-i

@@ -1,11 +1,8 @@
 -- `slots::same` meets its contract. The loop's invariant: the filters passed at the back are the same, so the words before them decide.
 -- Assumes nothing.
-use Prim.Native.Nat.{◌-◌}
 use mathlib.Core.Path.{sym, ◌∙◌}
-use lib.ListN.{length}
-use borrow.Author.Rules.{rules}
 use borrow.Author.Tests.{not-true, not-false}
-use Rattle.slots.proofs.Sameness.{Passed, passed_none, passed_all, passed_differ, passed_more}
+use Rattle.slots.proofs.Sameness.{passed_none, passed_all, passed_differ, passed_more}
 use Rattle.slots.proofs.same.Goals as goal
 
 pub loop-passed-init : goal.loop-passed-init

@@ -1,11 +1,6 @@
 -- `slots::same_words` meets its contract. The loop's invariant: the words passed are the same or not, and the rest is still to come.
 -- Assumes nothing.
-use Prim.Native.Nat.{◌-◌}
-use mathlib.Core.Path.{◌≡◌, refl, sym, ◌∙◌}
-use mathlib.Core.Bool.{◌&&◌}
-use lib.ListN.{length, drop}
-use borrow.Author.Rules.{rules}
-use Rattle.slots.specs.inner.Slots.{same_words}
+use mathlib.Core.Path.{refl, sym, ◌∙◌}
 use Rattle.slots.proofs.Sameness.{same_next, same_end}
 use Rattle.slots.proofs.same_words.Goals as goal
 

@@ -1,12 +1,10 @@
 -- `slots::same_words` meets its contract. The loop's invariant: the words passed are the same or not, and the rest is still to come.
 -- Assumes nothing.
 use Prim.Native.Nat.{◌-◌}
-use mathlib.Core.Path.{◌≡◌, refl, sym, ◌∙◌}
+use mathlib.Core.Path.{◌≡◌}
 use mathlib.Core.Bool.{◌&&◌}
 use lib.ListN.{length, drop}
-use borrow.Author.Rules.{rules}
 use Rattle.slots.specs.inner.Slots.{same_words}
-use Rattle.slots.proofs.Sameness.{same_next, same_end}
 use Rattle.slots.proofs.same_words.Given as goal
 
 abbrev pub invariant-loop-at : goal.invariant-loop-at

@@ -3,7 +3,6 @@
 use Rattle.slots.specs.inner.Slots.{closed_words, start_words}
 use Rattle.lists.specs.laws.Accepted.{accepted_count}
 use mathlib.Core.Path.{ap, ◌∙◌}
-use borrow.Author.Rules.{rules}
 use Rattle.slots.proofs.start_into.Goals as goal
 
 pub close-requires : goal.close-requires

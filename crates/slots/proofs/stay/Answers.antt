@@ -1,7 +1,6 @@
 -- `slots::stay` meets its contract. It is made out where it does not stay.
 -- Assumes nothing.
 use borrow.Author.Tests.{not-true, not-false}
-use borrow.Author.Rules.{rules}
 use Rattle.slots.proofs.stay.Goals as goal
 
 pub returns-then-not-stays : goal.returns-then-not-stays

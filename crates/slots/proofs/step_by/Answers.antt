@@ -1,7 +1,6 @@
 -- `slots::step_by` meets its contract. The question's fact cuts every filter, and what is cut is closed.
 -- Assumes nothing.
 use Rattle.slots.proofs.Stepping.{step_is}
-use borrow.Author.Rules.{rules}
 use Rattle.slots.proofs.step_by.Goals as goal
 
 pub returns : goal.returns

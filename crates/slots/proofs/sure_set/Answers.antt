@@ -6,8 +6,6 @@ use Rattle.slots.specs.inner.Slots.{sure_set_in}
 use Rattle.sets.specs.Sets.{set_of, tally}
 use native.Mathlib.Omega.{arith}
 use mathlib.Core.Path.{◌≡◌, refl, ap, ◌∙◌}
-use Prim.Native.Nat.{◌≤◌, ◌-◌}
-use borrow.Author.Rules.{rules}
 use Rattle.slots.proofs.sure_set.Goals as goal
 
 pub loop-i-init : goal.loop-i-init

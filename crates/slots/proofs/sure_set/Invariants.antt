@@ -1,13 +1,9 @@
 -- `slots::sure_set` meets its contract. The loop's invariant: the set holds the sure filters below i.
 -- Assumes nothing.
-use Rattle.slots.proofs.Stepping.{out_bound}
-use Rattle.slots.proofs.Sets.{sure_at, sure_turn, put_bound}
-use Rattle.slots.specs.inner.Slots.{sure_set_in}
+use Rattle.slots.proofs.Sets.{sure_at}
 use Rattle.sets.specs.Sets.{set_of, tally}
-use native.Mathlib.Omega.{arith}
-use mathlib.Core.Path.{◌≡◌, refl, ap, ◌∙◌}
+use mathlib.Core.Path.{◌≡◌}
 use Prim.Native.Nat.{◌≤◌, ◌-◌}
-use borrow.Author.Rules.{rules}
 use Rattle.slots.proofs.sure_set.Given as goal
 
 abbrev pub invariant-loop-i : goal.invariant-loop-i

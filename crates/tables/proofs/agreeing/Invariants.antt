@@ -1,14 +1,9 @@
 -- `tables::agreeing` meets its contract. The loop's invariant: none of the records passed agrees, so the first that does is the first from here on.
 -- Assumes nothing.
-use Prim.Native.Nat.{ℕ, suc, ◌+◌, ◌-◌, ◌≤◌, ◌<◌}
-use mathlib.Core.Path.{◌≡◌, refl, sym, ap, ◌∙◌}
-use mathlib.Core.Bool.{true, false}
+use Prim.Native.Nat.{ℕ, ◌-◌, ◌≤◌}
+use mathlib.Core.Path.{◌≡◌}
 use mathlib.Core.List.{List}
-use native.Mathlib.Omega.{arith}
-use lib.Arith.{lt_of_le-ne}
-use borrow.Author.Rules.{rules}
-use Rattle.tables.specs.inner.Records.{agree, fresh_by, record_at, agreeing_from}
-use Rattle.tables.specs.laws.Agreeing.{agreeing_here, agreeing_on, agreeing_end}
+use Rattle.tables.specs.inner.Records.{fresh_by, agreeing_from}
 use Rattle.tables.proofs.agreeing.Given as goal
 
 abbrev pub Left : ℕ → ℕ → ℕ → List ℕ → List ℕ → Type 0

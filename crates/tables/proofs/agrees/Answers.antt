@@ -7,7 +7,6 @@ use mathlib.Core.List.{List, [], ◌∷◌}
 use lib.Dec.{eqb}
 use native.Mathlib.Omega.{arith}
 use lib.ListN.{get_or, take, drop}
-use borrow.Author.Rules.{rules}
 use borrow.Author.Tests.{eq-eqb, ne_eqb}
 use Rattle.tables.specs.declared.Fresh.{Fresh}
 use Rattle.lists.specs.Filters.{kind_at, field_at, mask_at, value_at}

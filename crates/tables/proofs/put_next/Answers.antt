@@ -4,7 +4,6 @@ use Prim.Native.Nat.{ℕ, ◌+◌, ◌*◌}
 use mathlib.Core.Path.{ap}
 use native.Mathlib.Omega.{arith}
 use lib.ListN.{set}
-use borrow.Author.Rules.{rules}
 use Rattle.tables.specs.Tables.{record_words}
 use Rattle.tables.specs.inner.Records.{with_next}
 use Rattle.tables.specs.laws.Layout.{next_within}

@@ -4,7 +4,6 @@ use Prim.Native.Nat.{ℕ, ◌+◌}
 use mathlib.Core.Path.{ap₂}
 use native.Mathlib.Omega.{arith}
 use lib.ListN.{set, length-set}
-use borrow.Author.Rules.{rules}
 use Rattle.tables.specs.inner.Records.{put_set}
 use Rattle.tables.proofs.put_set.Goals as goal
 

@@ -6,7 +6,6 @@ use mathlib.Core.List.{List, ◌∷◌, ◌++◌}
 use native.Mathlib.Omega.{arith}
 use lib.ListN.{length-set}
 use lib.Seq.{sets-eq}
-use borrow.Author.Rules.{rules}
 use Rattle.tables.specs.Tables.{out_at, as_words, record_with}
 use Rattle.tables.specs.inner.Records.{put_set, fresh_record, fresh_by}
 use Rattle.tables.proofs.write_fresh.Goals as goal

@@ -1,7 +1,6 @@
 -- `builder::meet::asks` meets its contract. The first word of the question is not 0 where there is one to ask.
 -- Assumes nothing.
 use Rattle.builder.proofs.Finding.{asked_is}
-use borrow.Author.Rules.{rules}
 use Rattle.builder.proofs.meet.asks.Goals as goal
 
 pub returns : goal.returns

@@ -1,13 +1,7 @@
 -- `builder::meet::find` meets its contract. The loop's invariant: none of the first i states is the candidate, neither those compared nor those whose records do not agree.
 -- Assumes nothing.
-use Prim.Native.Nat.{ℕ, ◌≤◌, ◌-◌}
-use mathlib.Core.Path.{sym, ap, ◌∙◌}
-use mathlib.Core.List.{List}
-use native.Mathlib.Omega.{arith}
-use Rattle.tables.specs.inner.Records.{fresh_by}
-use Rattle.slots.specs.inner.Slots.{same_words}
-use Rattle.builder.proofs.Finding.{Unmet, slot_part, unmet_none, unmet_more, unmet_next, later_next, found_at, found_nothing}
-use borrow.Author.Rules.{rules}
+use Prim.Native.Nat.{◌≤◌, ◌-◌}
+use Rattle.builder.proofs.Finding.{Unmet}
 use Rattle.builder.proofs.meet.find.Given as goal
 
 abbrev pub invariant-loop-i : goal.invariant-loop-i

@@ -1,7 +1,6 @@
 -- `builder::meet::fresh_of` meets its contract. The question and the sets are the state's.
 -- Assumes nothing.
 use Rattle.builder.proofs.Storing.{fresh_is}
-use borrow.Author.Rules.{rules}
 use Rattle.builder.proofs.meet.fresh_of.Goals as goal
 
 pub returns : goal.returns

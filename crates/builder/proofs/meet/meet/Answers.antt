@@ -2,7 +2,6 @@
 -- Assumes nothing.
 use mathlib.Core.Path.{sym}
 use Rattle.builder.proofs.Meeting.{front_long, front_fits, front_whole, front_steps, step_asks, fresh_asks, search_asks, store_asks, slot_left, met_old, met_slotless, met_new}
-use borrow.Author.Rules.{rules}
 use Rattle.builder.proofs.meet.meet.Goals as goal
 
 pub slice_bounds-step_into-end-3 : goal.slice_bounds-step_into-end-3

@@ -1,7 +1,6 @@
 -- `builder::meet::step_into` meets its contract. The question that the state is stepped by is its own.
 -- Assumes nothing.
 use Rattle.builder.proofs.Meeting.{step_own}
-use borrow.Author.Rules.{rules}
 use Rattle.builder.proofs.meet.step_into.Goals as goal
 
 pub returns : goal.returns

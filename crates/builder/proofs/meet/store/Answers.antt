@@ -2,7 +2,6 @@
 -- Assumes nothing.
 use Rattle.tables.specs.inner.Records.{fresh_by}
 use Rattle.builder.proofs.Storing.{stored_both}
-use borrow.Author.Rules.{rules}
 use Rattle.builder.proofs.meet.store.Goals as goal
 
 pub returns : goal.returns

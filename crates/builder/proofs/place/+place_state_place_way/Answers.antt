@@ -1,6 +1,6 @@
 -- The state builder and the way builder meet their contracts: each way out is a law of specs/laws/WaysPlaced. The measure is the number of tests that remain in the state of slot `at`, twice, and one more for the state builder.
 -- Assumes nothing.
-use mathlib.Core.Path.{◌≡◌, refl, ◌∙◌, subst, sym}
+use mathlib.Core.Path.{◌≡◌, ◌∙◌, subst, sym}
 use mathlib.Core.Bool.{Bool, false, not}
 use mathlib.Core.List.{List}
 use native.Mathlib.Omega.{arith}
@@ -18,6 +18,10 @@ use Rattle.builder.proofs.place.+place_state_place_way.Goals as goal
 roomy : (n k k' : ℕ) → k' ≡ k → filter_slot * n ≤ k → filter_slot * n ≤ k'
 roomy n k k' e h = subst (λ (m : ℕ). filter_slot * n ≤ m) (sym e) h
 
+-- A record in the table is there too in a table that came back.
+tabled : (at k k' : ℕ) → k' ≡ k → record_words * (at + 1) ≤ k → record_words * (at + 1) ≤ k'
+tabled at k k' e h = subst (λ (m : ℕ). record_words * (at + 1) ≤ m) (sym e) h
+
 -- What is below the caller's measure is below its value.
 below : {m j t : ℕ} → m < j → j ≡ t → m < t
 below {m} h e = subst (λ (k : ℕ). m < k) e h
@@ -25,6 +29,9 @@ below {m} h e = subst (λ (k : ℕ). m < k) e h
 -- The state asks, by the function that was called.
 asked : {n : ℕ} {ranks w : List ℕ} (r : Bool) → GoodWords n ranks w → r ≡ asks_in n w → not r ≡ false → Asking n ranks w
 asked r good e h = record { good = good; asks = sym e ∙ not-false r h }
+
+pub place_state-asks-requires : goal.place_state-asks-requires
+place_state-asks-requires t c = P.held c.args.n c.args.slots c.args.ranks.now c.args.at c.args.used c.args.table.now c.args.scratch.now c.requires.ready
 
 pub place_state-returns-then-not-asks : goal.place_state-returns-then-not-asks
 place_state-returns-then-not-asks t c =
@@ -81,19 +88,26 @@ place_state-returns t c =
 
 pub place_way-place_state-placed-requires : goal.place_way-place_state-placed-requires
 place_way-place_state-placed-requires t c = (
-      below (P.state_less c.args.n c.args.slots c.args.ranks.now c.args.at c.args.used c.args.o c.args.table.now c.args.scratch.now c.requires.ready c.requires.asking c.meet.result c.meet.new.table c.meet.new.scratch c.in-New.is c.meet.ensures) c.decreases,
-      (
-        P.ready_new c.args.n c.args.slots c.args.ranks.now c.args.at c.args.used c.args.o c.args.table.now c.args.scratch.now c.requires.ready c.requires.asking c.meet.result c.meet.new.table c.meet.new.scratch c.in-New.is c.meet.ensures c.meet.auto.table c.meet.auto.scratch,
-        (
-          roomy c.args.n _ _ c.meet.auto.words c.requires.n_in_bounds,
-          P.good_new c.args.n c.args.slots c.args.ranks.now c.args.at c.args.used c.args.o c.args.table.now c.args.scratch.now c.requires.ready c.requires.asking c.meet.result c.meet.new.table c.meet.new.scratch c.in-New.is c.meet.ensures,
-        ),
-      ),
-    )
+  below (P.state_less c.args.n c.args.slots c.args.ranks.now c.args.at c.args.used c.args.o c.args.table.now c.args.scratch.now c.requires.ready c.requires.asking c.meet.result c.meet.new.table c.meet.new.scratch c.in-New.is c.meet.ensures) c.decreases,
+  (
+    P.ready_new c.args.n c.args.slots c.args.ranks.now c.args.at c.args.used c.args.o c.args.table.now c.args.scratch.now c.requires.ready c.requires.asking c.meet.result c.meet.new.table c.meet.new.scratch c.in-New.is c.meet.ensures c.meet.auto.table c.meet.auto.scratch,
+    (
+      roomy c.args.n _ _ c.meet.auto.words c.requires.n_in_bounds,
+      P.good_new c.args.n c.args.slots c.args.ranks.now c.args.at c.args.used c.args.o c.args.table.now c.args.scratch.now c.requires.ready c.requires.asking c.meet.result c.meet.new.table c.meet.new.scratch c.in-New.is c.meet.ensures,
+    ),
+  ),
+)
 
 pub place_way-returns-in_default : goal.place_way-returns-in_default
 place_way-returns-in_default t c =
     P.placed_new_slotless c.args.n c.args.slots c.args.ranks.now c.args.at c.args.used c.args.o c.args.table.now c.args.scratch.now c.requires.ready c.requires.asking c.meet.result c.meet.new.table c.meet.new.scratch c.in-New.is c.meet.ensures c.place_state-placed.result c.place_state-placed.new.table c.place_state-placed.new.scratch c.in_default.is c.place_state-placed.ensures
+
+pub place_way-overflow_cast-number : goal.place_way-overflow_cast-number
+place_way-overflow_cast-number t c =
+    omega (arith, P.old_below c.args.n c.args.slots c.args.ranks.now c.args.at c.args.used c.args.o c.args.table.now c.args.scratch.now c.requires.ready c.in-Old.number c.meet.result c.meet.new.table c.meet.new.scratch c.in-Old.is c.meet.ensures, c.requires.ready.within, c.requires.ready.few)
+
+pub place_way-put_next-requires : goal.place_way-put_next-requires
+place_way-put_next-requires t c = tabled c.args.at _ _ c.meet.auto.table (P.record_within c.args.n c.args.slots c.args.ranks.now c.args.at c.args.used c.args.table.now c.args.scratch.now c.requires.ready)
 
 pub place_way-returns-in-Old : goal.place_way-returns-in-Old
 place_way-returns-in-Old t c =

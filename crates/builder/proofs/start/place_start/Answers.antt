@@ -11,7 +11,6 @@ use Rattle.builder.specs.inner.Promises.{Stored}
 use Rattle.builder.specs.laws.Starting as S
 use Rattle.builder.proofs.Meeting.{front_long, front_fits, front_is, front_whole}
 use Rattle.builder.proofs.Starting as A
-use borrow.Author.Rules.{rules}
 use Rattle.builder.proofs.start.place_start.Goals as goal
 
 -- The array that the start, and then every state, is made in.

@@ -1,6 +1,5 @@
 -- `fields::bytes::byte_at` meets its contract: an element of the slice is a byte.
 -- Assumes nothing.
-use borrow.Author.Rules.{rules}
 use native.Mathlib.Omega.{arith}
 use Rattle.fields.proofs.bytes.byte_at.Goals as goal
 

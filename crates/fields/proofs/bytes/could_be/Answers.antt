@@ -1,6 +1,5 @@
 -- `fields::bytes::could_be` meets its contract: a byte behind the end may be any.
 -- Assumes nothing.
-use borrow.Author.Rules.{rules}
 use borrow.Author.Tests.{le-leb, lt-leb}
 use Rattle.fields.specs.Seen.{could}
 use Rattle.fields.proofs.bytes.could_be.Goals as goal

@@ -1,6 +1,5 @@
 -- `fields::bytes::two_at` meets its contract: the sum is the definition's, and it fits since each byte is below 256.
 -- Assumes nothing.
-use borrow.Author.Rules.{rules}
 use native.Mathlib.Omega.{arith}
 use Prim.Native.Nat.{◌+◌}
 use mathlib.Core.Path.{refl}

@@ -1,6 +1,5 @@
 -- `fields::ethernet::may_be_type` meets its contract: the first of the two bytes is tested, or lies behind the end.
 -- Assumes nothing.
-use borrow.Author.Rules.{rules}
 use borrow.Author.Tests.{le-leb, lt-leb}
 use Rattle.fields.specs.Seen.{could, may_be_type}
 use Rattle.fields.proofs.ethernet.may_be_type.Goals as goal

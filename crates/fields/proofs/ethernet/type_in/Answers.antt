@@ -1,6 +1,5 @@
 -- `fields::ethernet::type_in` meets its contract: each return has found the definition's tests true or one of them false.
 -- Assumes nothing.
-use borrow.Author.Rules.{rules}
 use borrow.Author.Tests.{lt-leb, le-leb}
 use mathlib.Core.Bool.{and-false}
 use Rattle.fields.specs.Ethernet.{ethernet}

@@ -1,6 +1,5 @@
 -- `fields::ipv4::may_begin` meets its contract: the bits of the offset are tested byte by byte, so far as they are there.
 -- Assumes nothing.
-use borrow.Author.Rules.{rules}
 use borrow.Author.Tests.{le-leb, lt-leb, eq-eqb, ne_eqb}
 use native.Mathlib.Omega.{arith}
 use Prim.Native.Nat.{◌≤◌}

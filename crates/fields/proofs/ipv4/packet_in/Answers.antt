@@ -1,7 +1,6 @@
 -- `fields::ipv4::packet_in` meets its contract: each early return has found one of the definition's conditions false, the last all of
 -- them true.
 -- Assumes nothing.
-use borrow.Author.Rules.{rules}
 use borrow.Author.Tests.{lt-leb, le-leb, eq-eqb, ne_eqb, not-true, not-false}
 use native.Mathlib.Omega.{arith}
 use Prim.Native.Nat.{ℕ, ◌*◌, ◌%◌}
@@ -72,9 +71,9 @@ returns-then-two_at-ne0 c = rw (whole (goal.at.returns-then-two_at-ne0 c).Else-f
 pub returns : goal.returns
 unfolding total_length transport_start transport_end
 returns c = rw (
-      whole (goal.at.returns c).Else-frame-end,
-      ← c.two_at-2.ensures,
-      eq-eqb _ _ c.if-two_at-ne0.false,
-      ← header-known (goal.at.returns c).Else-not-is_first,
-      ← c.two_at-total.ensures,
-    )
+  whole (goal.at.returns c).Else-frame-end,
+  ← c.two_at-2.ensures,
+  eq-eqb _ _ c.if-two_at-ne0.false,
+  ← header-known (goal.at.returns c).Else-not-is_first,
+  ← c.two_at-total.ensures,
+)

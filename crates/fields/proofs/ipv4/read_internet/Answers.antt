@@ -1,6 +1,5 @@
 -- `fields::ipv4::read_internet` meets its contract: a packet's header is put, and nothing where there is no packet.
 -- Assumes nothing.
-use borrow.Author.Rules.{rules}
 use mathlib.Core.Path.{sym, ◌∙◌}
 use Rattle.fields.specs.laws.Filling.{unchanged}
 use Rattle.fields.proofs.Headers.{PacketAt, is_packet, no_packet}

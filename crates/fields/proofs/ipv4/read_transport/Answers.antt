@@ -1,6 +1,5 @@
 -- `fields::ipv4::read_transport` meets its contract: the puts of the transport part that is lent, and none where there is no packet.
 -- Assumes nothing.
-use borrow.Author.Rules.{rules}
 use native.Mathlib.Omega.{arith}
 use mathlib.Core.Path.{sym, ◌∙◌}
 use Rattle.fields.specs.Ipv4.{protocol}

@@ -1,6 +1,5 @@
 -- `fields::put::put` meets its contract: a one moved up by the number of a field does not leave the word.
 -- Assumes nothing.
-use borrow.Author.Rules.{rules}
 use Prim.Native.Nat.{ℕ, ◌*◌, ◌%◌, ◌^◌, ◌<◌}
 use native.Mathlib.Omega.{arith}
 use native.Mathlib.Nat.{one-mul}

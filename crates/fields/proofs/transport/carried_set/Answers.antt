@@ -1,6 +1,5 @@
 -- `fields::transport::carried_set` meets its contract: the protocol's own fields, or those of all where it lies behind the end.
 -- Assumes nothing.
-use borrow.Author.Rules.{rules}
 use borrow.Author.Tests.{le-leb, lt-leb, ne_eqb}
 use mathlib.Core.Path.{sym, ◌∙◌}
 use Rattle.sets.specs.Sets.{set_of}
@@ -27,9 +26,9 @@ returns-then-protocol-eq-ICMP c = simp (sym c.byte_at-protocol.ensures ∙ c.if-
 pub returns : goal.returns
 unfolding carried could set_of
 returns c = simp (
-      ← c.byte_at-protocol.ensures,
-      lt-leb _ _ c.if-frame-at.false,
-      ne_eqb _ _ c.if-protocol-eq-TCP.false,
-      ne_eqb _ _ c.if-protocol-eq-UDP.false,
-      ne_eqb _ _ c.if-protocol-eq-ICMP.false,
-    )
+  ← c.byte_at-protocol.ensures,
+  lt-leb _ _ c.if-frame-at.false,
+  ne_eqb _ _ c.if-protocol-eq-TCP.false,
+  ne_eqb _ _ c.if-protocol-eq-UDP.false,
+  ne_eqb _ _ c.if-protocol-eq-ICMP.false,
+)

@@ -1,6 +1,5 @@
 -- `fields::transport::icmp` meets its contract: no byte, one byte or more put nothing, the type, or type and code.
 -- Assumes nothing.
-use borrow.Author.Rules.{rules}
 use Rattle.fields.specs.laws.Filling.{unchanged, then}
 use Rattle.fields.proofs.Transports.{icmp_none, icmp_type, icmp_whole}
 use Rattle.fields.proofs.transport.icmp.Goals as goal
@@ -14,8 +13,8 @@ returns-then-part-lt2 c = rw (icmp_type _ c.if-part-lt1.false c.if-part-lt2.true
 
 pub returns : goal.returns
 returns c = rw (
-      icmp_whole _ c.if-part-lt2.false,
-      ← c.byte_at.ensures,
-      ← c.byte_at-2.ensures,
-    )
+  icmp_whole _ c.if-part-lt2.false,
+  ← c.byte_at.ensures,
+  ← c.byte_at-2.ensures,
+)
     (then c.put-set.ensures c.put.ensures)

@@ -1,6 +1,5 @@
 -- `fields::transport::udp` meets its contract: under four bytes nothing is put, else both ports.
 -- Assumes nothing.
-use borrow.Author.Rules.{rules}
 use native.Mathlib.Omega.{arith}
 use Prim.Native.Nat.{◌<◌}
 use lib.ListN.{length}
@@ -14,8 +13,8 @@ returns-then-part-lt4 c = let short : length c.args.part.now < 4 = omega arith i
 
 pub returns : goal.returns
 returns c = rw (
-      udp_whole _ c.if-part-lt4.false,
-      ← c.two_at.ensures,
-      ← c.two_at-2.ensures,
-    )
+  udp_whole _ c.if-part-lt4.false,
+  ← c.two_at.ensures,
+  ← c.two_at-2.ensures,
+)
     (then c.put-set.ensures c.put.ensures)

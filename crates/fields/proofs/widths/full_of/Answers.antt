@@ -1,6 +1,5 @@
 -- `fields::widths::full_of` meets its contract: the constant table is the definition's, and no width in it is above 32, so nothing wraps.
 -- Assumes nothing.
-use borrow.Author.Rules.{rules}
 use native.Mathlib.Omega.{arith}
 use Prim.Native.Nat.{◌≤◌}
 use lib.ListN.{get_or-eq_default}

@@ -1,12 +1,9 @@
 -- `slots::filter::clear_from` meets its contract. The loop's invariant: clearing from where the loop stands gives what clearing from the start gives.
 -- Assumes nothing.
 use Rattle.slots.proofs.Cutting.{cleared_step, cleared_all}
-use Rattle.slots.specs.inner.Steps.{cleared_from}
-use lib.ListN.{length, length-set}
+use lib.ListN.{length-set}
 use native.Mathlib.Omega.{arith}
-use mathlib.Core.Path.{◌≡◌, refl, sym, ◌∙◌}
-use Prim.Native.Nat.{◌-◌}
-use borrow.Author.Rules.{rules}
+use mathlib.Core.Path.{refl, sym, ◌∙◌}
 use Rattle.slots.proofs.filter.clear_from.Goals as goal
 
 pub loop-i-init : goal.loop-i-init

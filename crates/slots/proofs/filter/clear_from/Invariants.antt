@@ -1,12 +1,9 @@
 -- `slots::filter::clear_from` meets its contract. The loop's invariant: clearing from where the loop stands gives what clearing from the start gives.
 -- Assumes nothing.
-use Rattle.slots.proofs.Cutting.{cleared_step, cleared_all}
 use Rattle.slots.specs.inner.Steps.{cleared_from}
-use lib.ListN.{length, length-set}
-use native.Mathlib.Omega.{arith}
-use mathlib.Core.Path.{◌≡◌, refl, sym, ◌∙◌}
+use lib.ListN.{length}
+use mathlib.Core.Path.{◌≡◌}
 use Prim.Native.Nat.{◌-◌}
-use borrow.Author.Rules.{rules}
 use Rattle.slots.proofs.filter.clear_from.Given as goal
 
 abbrev pub invariant-loop-i : goal.invariant-loop-i

@@ -2,7 +2,6 @@
 -- Assumes nothing.
 use Rattle.slots.proofs.Cutting.{cut_out, cut_left}
 use mathlib.Core.Path.{◌∙◌}
-use borrow.Author.Rules.{rules}
 use Rattle.slots.proofs.filter.cut_filter.Goals as goal
 
 pub returns-then-src-eq-OUT : goal.returns-then-src-eq-OUT

@@ -5,15 +5,11 @@ use mathlib.Core.List.{List}
 use Prim.Native.Nat.{ℕ}
 use Rattle.slots.proofs.Cutting.{rest, rest_stop, rest_end, finished_start, finished_end, turn_out, turn_again}
 use Rattle.slots.specs.inner.Steps.{finished}
-use Rattle.slots.specs.Words.{filter_slot}
 use Rattle.slots.specs.inner.Words.{written_filter, read_items}
 use Rattle.states.specs.States.{cut}
-use Rattle.lists.specs.Filters.{max_tests, test_words}
-use lib.ListN.{length}
+use Rattle.lists.specs.Filters.{max_tests}
 use native.Mathlib.Omega.{arith}
 use mathlib.Core.Path.{◌≡◌, ap, sym, ◌∙◌}
-use Prim.Native.Nat.{◌≤◌, ◌*◌, ◌-◌}
-use borrow.Author.Rules.{rules}
 use Rattle.slots.proofs.filter.cut_tests.Goals as goal
 
 abbrev Whole : ℕ → Fact → List ℕ → List ℕ

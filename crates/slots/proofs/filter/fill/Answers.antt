@@ -3,7 +3,6 @@
 use Rattle.slots.proofs.Starting.{fill_is}
 use lib.ListN.{drop}
 use mathlib.Core.Path.{◌∙◌}
-use borrow.Author.Rules.{rules}
 use Rattle.slots.proofs.filter.fill.Goals as goal
 
 pub returns : goal.returns

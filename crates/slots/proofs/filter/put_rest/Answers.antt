@@ -1,7 +1,6 @@
 -- `slots::filter::put_rest` meets its contract. Each arm is a clause of the definitions.
 -- Assumes nothing.
 use Rattle.slots.specs.inner.Steps.{kept_words, kept_at}
-use borrow.Author.Rules.{rules}
 use Rattle.slots.proofs.filter.put_rest.Goals as goal
 
 pub returns-in-True : goal.returns-in-True

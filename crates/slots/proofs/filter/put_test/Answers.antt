@@ -1,7 +1,6 @@
 -- `slots::filter::put_test` meets its contract. Each arm stores the words of its kind of test.
 -- Assumes nothing.
 use Rattle.lists.specs.Words.{item_words, kind_of, mask_of, value_of}
-use borrow.Author.Rules.{rules}
 use Rattle.slots.proofs.filter.put_test.Goals as goal
 
 pub returns-in-Equal : goal.returns-in-Equal

@@ -1,16 +1,12 @@
 -- `slots::filter::put_tests` meets its contract. The loop's invariant: the tests that are put, then those still to come, are all of them.
 -- Assumes nothing.
-use Rattle.slots.proofs.Starting.{put_turn, put_end}
 use Rattle.slots.specs.Words.{filter_slot}
 use Rattle.slots.specs.inner.Words.{items_words}
 use Rattle.lists.specs.Filters.{test_words, items_of}
 use lib.ListN.{length, take, drop}
-use native.Mathlib.Nat.{sub-zero, add-zero}
-use native.Mathlib.Omega.{arith}
 use mathlib.Core.List.{◌++◌}
-use mathlib.Core.Path.{◌≡◌, sym, ap, ap₂, ◌∙◌}
+use mathlib.Core.Path.{◌≡◌}
 use Prim.Native.Nat.{◌≤◌, ◌+◌, ◌*◌, ◌-◌}
-use borrow.Author.Rules.{rules}
 use Rattle.slots.proofs.filter.put_tests.Given as goal
 
 abbrev pub invariant-loop-test : goal.invariant-loop-test

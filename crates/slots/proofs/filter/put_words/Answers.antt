@@ -3,7 +3,6 @@
 use Rattle.slots.proofs.Cutting.{put_four}
 use lib.ListN.{length-set}
 use native.Mathlib.Omega.{arith}
-use borrow.Author.Rules.{rules}
 use Rattle.slots.proofs.filter.put_words.Goals as goal
 
 pub bounds-dst-at-2 : goal.bounds-dst-at-2

@@ -3,7 +3,6 @@
 use Rattle.slots.proofs.Cutting.{out_words_lem}
 use lib.ListN.{length-set}
 use mathlib.Core.Path.{◌∙◌}
-use borrow.Author.Rules.{rules}
 use Rattle.slots.proofs.filter.set_out.Goals as goal
 
 pub shape_of-dst : goal.shape_of-dst

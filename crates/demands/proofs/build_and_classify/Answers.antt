@@ -1,0 +1,23 @@
+-- `demands::build_and_classify` meets its contract: what `build` ensures says which list was built and what its table holds, what `classify` ensures says that the frame is walked through that table.
+-- Assumes nothing.
+use native.Mathlib.Omega.{arith}
+use mathlib.Core.Path.{sym, ◌∙◌}
+use Rattle.demands.specs.laws.Whole.{whole_built, whole_refused}
+use Rattle.demands.proofs.build_and_classify.Goals as goal
+
+pub returns-in-States : goal.returns-in-States
+returns-in-States c = record {
+  whole = whole_built _ _ _ _ _ _ c.in-States.states _ c.classify.result
+      (sym c.in-States.is ∙ c.build.ensures.answer)
+      c.build.ensures.table
+      c.classify.ensures
+      c.type_inv.frame
+      (omega arith);
+  rooms = record { table = c.build.ensures.table; scratch = c.build.ensures.scratch };
+}
+
+pub returns-in-Refused : goal.returns-in-Refused
+returns-in-Refused c = record {
+  whole = whole_refused _ _ _ _ _ _ c.in-Refused.number c.in-Refused.filter (sym c.in-Refused.is ∙ c.build.ensures.answer);
+  rooms = record { table = c.build.ensures.table; scratch = c.build.ensures.scratch };
+}
