@@ -1,4 +1,3 @@
 pub mod Machines
 pub mod Lawful
-pub mod laws
 pub mod inner

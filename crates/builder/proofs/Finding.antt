@@ -12,7 +12,7 @@ use lib.ListN.{length, take, drop, get_or}
 use Rattle.sets.specs.Sets.{tally}
 use Rattle.sets.specs.laws.Members.{tally_more, get_d_tally, length_tally}
 use Rattle.tables.specs.inner.Records.{agree, fresh_by, record_at, agreeing_from}
-use Rattle.tables.specs.laws.Agreeing.{agreeing_in, agreeing_over}
+use Rattle.tables.proofs.laws.Agreeing.{agreeing_in, agreeing_over}
 use Rattle.tables.specs.declared.Fresh.{Fresh}
 use Rattle.slots.specs.Words.{filter_slot, slot_words}
 use Rattle.slots.specs.inner.Slots.{same_words, question_in, asks_in}
@@ -20,9 +20,9 @@ use Rattle.slots.specs.laws.Written.{same_words_eq}
 use Rattle.machine.specs.inner.Slots.{slots_in}
 use Rattle.automaton.specs.Machines.{Machine, meets, place_of}
 use Rattle.automaton.specs.inner.Placing.{Told, fresh_of}
-use Rattle.automaton.specs.laws.Telling.{told_at}
-use Rattle.automaton.specs.laws.Lists.{Begins, begins_refl, begins_append, begins_trans}
-use Rattle.automaton.specs.laws.Places.{meets_append, place_begins}
+use Rattle.automaton.proofs.laws.Telling.{told_at}
+use Rattle.automaton.proofs.laws.Lists.{Begins, begins_refl, begins_append, begins_trans}
+use Rattle.automaton.proofs.laws.Places.{meets_append, place_begins}
 use Rattle.builder.specs.inner.Memory.{slot_at, states_in, records_at, memory_of, sought_in}
 use Rattle.builder.specs.inner.Promises.{Shows, Search}
 use Rattle.builder.specs.laws.WaysPlaced.{length_states}

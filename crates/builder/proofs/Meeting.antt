@@ -18,7 +18,7 @@ use Rattle.slots.specs.inner.Steps.{Ranked, Stepped}
 use Rattle.machine.specs.inner.Slots.{slots_in}
 use Rattle.automaton.specs.Machines.{meets, place_of}
 use Rattle.automaton.specs.inner.Placing.{fresh_of}
-use Rattle.automaton.specs.laws.Places.{place_below}
+use Rattle.automaton.proofs.laws.Places.{place_below}
 use Rattle.builder.specs.inner.Memory.{slot_at, states_in, sought_in}
 use Rattle.builder.specs.laws.WaysPlaced.{length_states}
 use Rattle.builder.specs.inner.Promises.{Ready, Search, Store, Stored, Meeting}

@@ -10,7 +10,7 @@ use Rattle.words.specs.laws.Lending.{later, put_before, put_there, put_behind}
 use Rattle.tables.specs.Tables.{record_words}
 use Rattle.tables.specs.inner.Records.{fresh_record, fresh_by, record_at}
 use Rattle.tables.specs.declared.Fresh.{Fresh}
-use Rattle.tables.specs.laws.Layout.{record_long}
+use Rattle.tables.proofs.laws.Layout.{record_long}
 use Rattle.slots.specs.Words.{filter_slot, slot_words}
 use Rattle.slots.specs.inner.Slots.{question_in, sure_set_in, out_set_in}
 use Rattle.slots.specs.laws.Written.{length_question}

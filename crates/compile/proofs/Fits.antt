@@ -13,7 +13,7 @@ use Rattle.lists.specs.Refusals.{listed}
 use Rattle.lists.specs.declared.Listed.{Listed}
 use Rattle.lists.specs.declared.Listed.TheVariants as L
 use Rattle.tables.specs.Tables.{record_words, max_slots, slots_of}
-use Rattle.tables.specs.laws.Least.{slots_least}
+use Rattle.tables.proofs.laws.Least.{slots_least}
 use Rattle.machine.specs.Box.{states_of}
 use Rattle.builder.specs.Outcome.{number_of, Left, scratch_words, refused, no_room, placed, by_room, outcome_by, outcome}
 use Rattle.text.specs.Text as T

@@ -14,9 +14,9 @@ use Rattle.fields.specs.Fields.{field}
 use Rattle.fields.specs.Cut.{SeenAs}
 use Rattle.fields.specs.Seen.{seen}
 use Rattle.fields.specs.Steering.{SteerAlike}
-use Rattle.fields.specs.laws.Agree.{seen_alike}
-use Rattle.fields.specs.laws.Cut.{seen_as}
-use Rattle.fields.specs.laws.Values.{value_in_width}
+use Rattle.fields.proofs.laws.Agree.{seen_alike}
+use Rattle.fields.proofs.laws.Cut.{seen_as}
+use Rattle.fields.proofs.laws.Values.{value_in_width}
 use Rattle.sets.specs.Sets.{bit, member}
 use Rattle.lists.specs.Filters.{max_filters, Item, Filter, filters_of, tests_in}
 use Rattle.lists.specs.Ranks.{matches, match_set}
@@ -26,24 +26,24 @@ use Rattle.lists.specs.declared.Listed.TheVariants.{Accepted}
 use Rattle.states.specs.States.{State, start, ask, question_of, step, is_open}
 use Rattle.states.specs.Runs.{run, asked_in, follow}
 use Rattle.states.specs.Runs.{asks_all}
-use Rattle.states.specs.laws.Measure.{path_tests}
+use Rattle.states.proofs.laws.Measure.{path_tests}
 use Rattle.automaton.specs.Machines.{meets}
 use Rattle.automaton.specs.Lawful.{Reached, Distinct}
 use Rattle.tables.specs.Tables.{slots_of}
 use Rattle.machine.specs.Box.{box_of, states_of}
-use Rattle.machine.specs.laws.Lawful.{states_distinct, states_reached, reached_states}
-use Rattle.states.specs.laws.Well.{well_start, well_follow}
+use Rattle.machine.proofs.laws.Lawful.{states_distinct, states_reached, reached_states}
+use Rattle.states.proofs.laws.Well.{well_start, well_follow}
 use Rattle.matcher.specs.declared.Answer.{Answer}
 use Rattle.matcher.specs.declared.Answer.TheVariants.{Refused}
-use Rattle.matcher.specs.laws.Marks.{mark_lasts}
+use Rattle.matcher.proofs.laws.Marks.{mark_lasts}
 use Rattle.matcher.specs.Walk.{found, is_done, damaged, walk}
 use Rattle.scanner.specs.Scan.{scanned}
 use Rattle.scanner.specs.declared.Scanned.TheVariants.{Matched}
 use Rattle.lamp.specs.Lamp.{Numbers, numbers_of, is_as_is, lamp_ends, lamp_of}
-use Rattle.lamp.specs.laws.Truths.{lamp_shows, shows_lit, shows_asked}
+use Rattle.lamp.proofs.laws.Truths.{lamp_shows, shows_lit, shows_asked}
 use Rattle.gateway.specs.Gateway.{tally_count, verdicts_fit, Judgement, counted_at, judged}
 use Rattle.gateway.specs.Events.{Event, sum_of, opened, book_over}
-use Rattle.gateway.specs.laws.Events.{runs_add_up}
+use Rattle.gateway.proofs.laws.Events.{runs_add_up}
 use Rattle.captures.specs.Replay.{most_count, last_four, replayed, text_replayed}
 use Rattle.captures.specs.Parts.{played, joined}
 use Rattle.captures.specs.declared.Replayed.TheVariants.{Counted}

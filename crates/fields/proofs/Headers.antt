@@ -17,7 +17,7 @@ use Rattle.fields.specs.Bytes.{byte, two, part}
 use Rattle.fields.specs.Ethernet.{ip_start, ether_type, ethernet}
 use Rattle.fields.specs.Ipv4.{internet, version, header_length, transport_start, transport_end, transport}
 use Rattle.fields.specs.inner.Parts.{type_in, packet_in}
-use Rattle.fields.specs.laws.Ipv4.{internet_lengths}
+use Rattle.fields.proofs.laws.Ipv4.{internet_lengths}
 
 -- What the arms of a reading and of a packet tell.
 pub is_type : (f : List ℕ) {n : ℕ} → type_in f ≡ Value n → (ethernet f ≡ true) × (ether_type f ≡ n)

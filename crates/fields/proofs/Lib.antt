@@ -1,3 +1,4 @@
+pub mod laws
 pub mod SmallWidths
 pub mod Transports
 pub mod Headers

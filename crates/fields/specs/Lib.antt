@@ -10,4 +10,3 @@ pub mod Seen
 pub mod Steering
 pub mod Header
 pub mod inner
-pub mod laws

@@ -1,2 +1,3 @@
+pub mod laws
 pub mod Verdicts
 pub mod Zeros

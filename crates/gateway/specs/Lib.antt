@@ -1,3 +1,2 @@
 pub mod Gateway
 pub mod Events
-pub mod laws

@@ -33,6 +33,7 @@ pub enum Judged {
 
 // The number of the lowest-numbered filter in a set; that of the last tally where the set is empty: so many zeros stand below the
 // lowest bit.
+#[tactic(auto, using(crate::proofs::Zeros::zeros_lowest))]
 fn lowest_of(set: Set) -> u32
     ensures { result ≡ lowest_of set }
 {

@@ -34,10 +34,10 @@ use Rattle.lists.specs.laws.Items.{kind_some, item_round}
 use Rattle.states.specs.States.{State, standing, is_held, start, nothing, ask, question_of, step_by}
 use Rattle.states.specs.Runs.{way_of, advance}
 use Rattle.states.specs.inner.Remaining.{remaining}
-use Rattle.states.specs.laws.Keeps.{by_question, advance_ask}
-use Rattle.states.specs.laws.Measure.{start_remaining, asking_remaining, step_falls}
-use Rattle.states.specs.laws.Standings.{length_start, length_step}
-use Rattle.states.specs.laws.Well.{well_state, well_start, well_step}
+use Rattle.states.proofs.laws.Keeps.{by_question, advance_ask}
+use Rattle.states.proofs.laws.Measure.{start_remaining, asking_remaining, step_falls}
+use Rattle.states.proofs.laws.Standings.{length_start, length_step}
+use Rattle.states.proofs.laws.Well.{well_state, well_start, well_step}
 use Rattle.slots.specs.Words.{question_words}
 use Rattle.slots.specs.inner.Words.{written}
 use Rattle.slots.specs.inner.Slots.{held_set, question_in, step_question}
@@ -45,13 +45,13 @@ use Rattle.slots.specs.laws.Fitting.{fits_slot, fits_start, fits_step}
 use Rattle.slots.specs.laws.Written.{question_written, held_written, by_written}
 use Rattle.tables.specs.Tables.{max_slots, record_words, slots_of}
 use Rattle.tables.specs.inner.Records.{way_at}
-use Rattle.tables.specs.laws.Least.{slots_least}
+use Rattle.tables.proofs.laws.Least.{slots_least}
 use Rattle.lamp.specs.Lamp.{is_as_is, some_held, lamp_next, lamp_at, lamp_from, lamp_of}
 use Rattle.lamp.specs.declared.Lamp.{Lamp}
 use Rattle.lamp.specs.declared.Lamp.TheVariants.{Dark, Refused}
 use Rattle.lamp.specs.inner.Records.{record_asks, Fits}
-use Rattle.lamp.specs.laws.Records.{as_asked}
-use Rattle.lamp.specs.laws.Turns.{turn_refused, turn_lit, turn_dark, turn_astray, turn_goes, lamp_long, lamp_misfit}
+use Rattle.lamp.proofs.laws.Records.{as_asked}
+use Rattle.lamp.proofs.laws.Turns.{turn_refused, turn_lit, turn_dark, turn_astray, turn_goes, lamp_long, lamp_misfit}
 
 -- ---- the number of states
 

@@ -1,3 +1,2 @@
 pub mod Lamp
-pub mod laws
 pub mod inner

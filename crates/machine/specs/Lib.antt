@@ -1,4 +1,3 @@
 pub mod Box
 pub mod Cases
-pub mod laws
 pub mod inner

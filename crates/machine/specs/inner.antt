@@ -1,2 +1,4 @@
 pub mod Remaining
 pub mod Slots
+pub mod Good
+pub mod Placed

@@ -18,10 +18,10 @@ use Rattle.residue.specs.declared.Reading.TheVariants.{Absent, Value}
 use Rattle.fields.specs.Widths.{field_count}
 use Rattle.fields.specs.Seen.{is_cut, reading_of}
 use Rattle.fields.specs.declared.Seen.{Seen}
-use Rattle.fields.specs.laws.CutSet.{value_uncut}
+use Rattle.fields.proofs.laws.CutSet.{value_uncut}
 use Rattle.lists.specs.Filters.{kind_at_least, test_of, kind_at, field_at}
 use Rattle.tables.specs.Tables.{record_words, sure_at, out_at, word_of, sure_set_at, out_set_at}
-use Rattle.tables.specs.laws.Layout.{set_read}
+use Rattle.tables.proofs.laws.Layout.{set_read}
 use Rattle.matcher.specs.declared.Answer.{Answer}
 use Rattle.matcher.specs.declared.Answer.TheVariants.{Refused}
 use Rattle.matcher.specs.Walk.{found_at, damaged, next_by, next_of, cut_of, arrive, onward, walk_from}

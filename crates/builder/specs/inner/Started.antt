@@ -8,7 +8,7 @@ use Rattle.lists.specs.Refusals.{listed}
 use Rattle.lists.specs.declared.Listed.TheVariants.{Accepted}
 use Rattle.tables.specs.Tables.{record_words, max_slots}
 use Rattle.slots.specs.Words.{slot_words}
-use Rattle.machine.specs.laws.Carried.{whole}
+use Rattle.machine.specs.inner.Placed.{whole}
 use Rattle.builder.specs.inner.Memory.{out_of}
 use Rattle.builder.specs.inner.Promises.{Grown, AfterKept}
 use Rattle.builder.specs.declared.Extent.{Extent}

@@ -11,7 +11,7 @@ use Rattle.residue.specs.declared.Outcome.{Outcome}
 use Rattle.words.specs.laws.Lending.{part_kept}
 use Rattle.tables.specs.Tables.{record_words, next_at}
 use Rattle.tables.specs.inner.Records.{record_at, with_next}
-use Rattle.tables.specs.laws.Changes.{record_kept, next_same, next_other}
+use Rattle.tables.proofs.laws.Changes.{record_kept, next_same, next_other}
 use Rattle.slots.specs.Words.{filter_slot, slot_words}
 use Rattle.lists.specs.Filters.{max_filters}
 use Rattle.builder.specs.inner.Memory.{slot_at, states_in, records_at}

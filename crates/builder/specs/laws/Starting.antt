@@ -11,11 +11,13 @@ use Rattle.words.specs.laws.Lending.{later}
 use Rattle.tables.specs.Tables.{record_words}
 use Rattle.slots.specs.inner.Slots.{start_words}
 use Rattle.machine.specs.inner.Slots.{slots_in}
-use Rattle.machine.specs.laws.Carried.{whole, list_placed}
-use Rattle.machine.specs.inner.Remaining.{GoodWords, tests_left, words_start, left_start}
+use Rattle.machine.specs.inner.Placed.{whole}
+use Rattle.machine.proofs.laws.Carried.{list_placed}
+use Rattle.machine.specs.inner.Remaining.{GoodWords, tests_left}
+use Rattle.machine.proofs.laws.Remaining.{words_start, left_start}
 use Rattle.automaton.specs.Machines.{Machine}
 use Rattle.automaton.specs.inner.Placing.{Memory, Placement, Told, slotless, stored, place_state, place_all}
-use Rattle.automaton.specs.laws.Telling.{told_none, told_stored}
+use Rattle.automaton.proofs.laws.Telling.{told_none, told_stored}
 use Rattle.builder.specs.inner.Memory.{slot_at, states_in, records_at, memory_of, out_of}
 use Rattle.builder.specs.inner.Promises.{Stored, StatePlaced, Grown, AfterKept}
 use Rattle.builder.specs.inner.Started.{Startable, Started}

@@ -14,15 +14,16 @@ use Rattle.sets.specs.laws.Members.{length_tally, get_d_tally}
 use Rattle.words.specs.laws.Lending.{later, earlier}
 use Rattle.tables.specs.Tables.{record_words}
 use Rattle.tables.specs.inner.Records.{with_next}
-use Rattle.tables.specs.laws.Changes.{next_behind}
+use Rattle.tables.proofs.laws.Changes.{next_behind}
 use Rattle.slots.specs.Words.{slot_words}
 use Rattle.slots.specs.inner.Slots.{step_words, asks_in}
 use Rattle.machine.specs.inner.Slots.{slots_in}
-use Rattle.machine.specs.inner.Remaining.{GoodWords, tests_left, words_step, words_fall}
+use Rattle.machine.specs.inner.Remaining.{GoodWords, tests_left}
+use Rattle.machine.proofs.laws.Remaining.{words_step, words_fall}
 use Rattle.automaton.specs.Machines.{meets, place_of}
 use Rattle.automaton.specs.inner.Placing.{Memory, Placement, Told, slotless, slotted, stored, linked, and_then, place_way, place_state}
-use Rattle.automaton.specs.laws.Telling.{ToldBy, told_stored, told_way, told_state}
-use Rattle.automaton.specs.laws.MetPlaced.{way_old, way_unslotted, way_new, state_final, state_slotless, state_slotted_slotless, state_slotted}
+use Rattle.automaton.proofs.laws.Telling.{ToldBy, told_stored, told_way, told_state}
+use Rattle.automaton.proofs.laws.MetPlaced.{way_old, way_unslotted, way_new, state_final, state_slotless, state_slotted_slotless, state_slotted}
 use Rattle.builder.specs.inner.Memory.{slot_at, states_in, memory_of, out_of}
 use Rattle.builder.specs.laws.Memory.{slot_kept, records_linked}
 use Rattle.builder.specs.inner.Promises.{Ready, Held, Asking, StatePlaced, WayPlaced, Meeting, Grown, AfterKept}

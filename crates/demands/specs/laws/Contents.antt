@@ -6,7 +6,7 @@ use Rattle.std.proofs.Common.{sym, ap, ◌∙◌}
 use Rattle.fields.specs.Fields.{field}
 use Rattle.fields.specs.Seen.{seen}
 use Rattle.fields.specs.Steering.{SteerAlike}
-use Rattle.fields.specs.laws.Agree.{seen_alike}
+use Rattle.fields.proofs.laws.Agree.{seen_alike}
 use Rattle.lists.specs.Refusals.{listed}
 use Rattle.lists.specs.declared.Listed.{Listed}
 use Rattle.lists.specs.declared.Listed.TheVariants.{Accepted, Refused}

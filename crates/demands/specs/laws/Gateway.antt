@@ -9,8 +9,8 @@ use Rattle.lists.specs.laws.Accepted.{accepted_count}
 use Rattle.lists.specs.laws.Topmost.{fires_below, matches_fires}
 use Rattle.matcher.specs.Walk.{found}
 use Rattle.gateway.specs.Gateway.{tally_count, allowance, lowest_of, verdicts_fit, Judgement, counted_at, judged}
-use Rattle.gateway.specs.laws.Judging.{judged_done}
-use Rattle.gateway.specs.laws.Lowest.{lowest_is, lowest_none}
+use Rattle.gateway.proofs.laws.Judging.{judged_done}
+use Rattle.gateway.proofs.laws.Lowest.{lowest_is, lowest_none}
 use Rattle.builder.specs.Outcome.{refusal_of, number_of, outcome}
 use Rattle.labels.specs.Labels.{Legal}
 use Rattle.demands.specs.Settled.{walked}

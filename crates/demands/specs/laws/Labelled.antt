@@ -9,17 +9,18 @@ use Rattle.lists.specs.Filters.{Item, Filter}
 use Rattle.states.specs.States.{State, nothing, ask, question_of, start, step_by, sure_set, out_set}
 use Rattle.states.specs.Runs.{asks}
 use Rattle.states.specs.inner.Choices.{Picked}
-use Rattle.states.specs.laws.Keeps.{by_question, step_ask}
+use Rattle.states.proofs.laws.Keeps.{by_question, step_ask}
 use Rattle.automaton.specs.Machines.{meets, place_of, nexts_of}
-use Rattle.automaton.specs.laws.Lists.{get_d_mem}
-use Rattle.automaton.specs.laws.Places.{mem_meets, place_below}
+use Rattle.automaton.proofs.laws.Lists.{get_d_mem}
+use Rattle.automaton.proofs.laws.Places.{mem_meets, place_below}
 use Rattle.tables.specs.Tables.{record_words, max_slots, slots_of, sure_set_at, out_set_at}
 use Rattle.tables.specs.inner.Records.{question_at, way_at}
-use Rattle.tables.specs.laws.Least.{slots_least}
+use Rattle.tables.proofs.laws.Least.{slots_least}
 use Rattle.slots.specs.Words.{question_words}
 use Rattle.machine.specs.Box.{box_of, states_of, records_in}
-use Rattle.machine.specs.laws.Front.{front_spells, front_way}
-use Rattle.machine.specs.laws.Lawful.{Good, box_lawful, states_good, states_closed, states_place, states_some, records_size, start_first, start_met}
+use Rattle.machine.proofs.laws.Front.{front_spells, front_way}
+use Rattle.machine.specs.inner.Good.{Good}
+use Rattle.machine.proofs.laws.Lawful.{box_lawful, states_good, states_closed, states_place, states_some, records_size, start_first, start_met}
 use Rattle.labels.specs.inner.Labelled.{FinalRecord, AskingRecord, LabelledBy}
 
 -- As many slots as there are records.

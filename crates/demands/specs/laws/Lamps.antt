@@ -17,8 +17,8 @@ use Rattle.lists.specs.declared.Listed.TheVariants.{Accepted}
 use Rattle.states.specs.States.{State, nothing, ask, question_of}
 use Rattle.states.specs.Runs.{way_of, advance}
 use Rattle.states.specs.inner.Choices.{Picked}
-use Rattle.states.specs.laws.Keeps.{by_question, question_left, advance_ask}
-use Rattle.states.specs.laws.Well.{well_state, well_left_lem, item_field}
+use Rattle.states.proofs.laws.Keeps.{by_question, question_left, advance_ask}
+use Rattle.states.proofs.laws.Well.{well_state, well_left_lem, item_field}
 use Rattle.tables.specs.Tables.{slots_of, word_of}
 use Rattle.tables.specs.inner.Records.{way_at}
 use Rattle.slots.specs.Words.{question_words}
@@ -26,8 +26,8 @@ use Rattle.matcher.specs.Walk.{damaged}
 use Rattle.labels.specs.inner.Labelled.{FinalRecord, AskingRecord, LabelledBy}
 use Rattle.labels.proofs.laws.Courses.{undamaged}
 use Rattle.lamp.specs.Lamp.{numbers_of, is_as_is, some_held, lamp_next, lamp_from, lamp_of}
-use Rattle.lamp.specs.laws.Records.{words_as_is, as_is_words, as_is_final}
-use Rattle.lamp.specs.laws.Turns.{turn_lit, turn_dark, turn_spent, turn_goes, lamp_walks}
+use Rattle.lamp.proofs.laws.Records.{words_as_is, as_is_words, as_is_final}
+use Rattle.lamp.proofs.laws.Turns.{turn_lit, turn_dark, turn_spent, turn_goes, lamp_walks}
 
 -- ---- damage
 

@@ -28,11 +28,12 @@ use Rattle.lists.specs.declared.Listed.{Listed}
 use Rattle.lists.specs.declared.Listed.TheVariants as L
 use Rattle.states.specs.States.{State, out, left, standing, is_held, is_out, cut_standing, all_left, beaten, closed_from, closed, start, Question, nothing, ask, question_of, step_by, step_at, step, sure, sure_set, out_set}
 use Rattle.automaton.specs.Machines.{record_of, flat, records_of}
-use Rattle.automaton.specs.laws.Lists.{each_nil}
-use Rattle.automaton.specs.laws.Visited.{visits_exist, visits_visit}
-use Rattle.automaton.specs.laws.Carrying.{Carried, SameCarried, visits_carried, each_record_carried}
+use Rattle.automaton.proofs.laws.Lists.{each_nil}
+use Rattle.automaton.proofs.laws.Visited.{visits_exist, visits_visit}
+use Rattle.automaton.proofs.laws.Carrying.{Carried, SameCarried, visits_carried, each_record_carried}
 use Rattle.machine.specs.Box.{box_of, states_of, records_in}
-use Rattle.machine.specs.laws.Lawful.{Good, good_start, box_lawful, enough, states_good}
+use Rattle.machine.specs.inner.Good.{Good}
+use Rattle.machine.proofs.laws.Lawful.{good_start, box_lawful, enough, states_good}
 use Rattle.builder.specs.Outcome.{placed, by_room, outcome_by, outcome}
 use Rattle.demands.specs.inner.OldRanks.{Ranking, old_outranks, old_above, matches_under, match_set_under, beaten_under, closed_from_under, closed_under, start_under, step_by_under, step_at_under, step_under, sure_under, sure_set_under, box_under, states_under, records_under, placed_under, by_room_under, outcome_by_under, outcome_under}
 

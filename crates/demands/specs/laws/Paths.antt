@@ -6,9 +6,9 @@ use Rattle.lists.specs.Filters.{Item, Filter}
 use Rattle.lists.specs.inner.Well.{well_filters}
 use Rattle.states.specs.States.{State, start, ask, question_of, step}
 use Rattle.states.specs.Runs.{follow}
-use Rattle.states.specs.laws.Asked.{never_twice}
-use Rattle.states.specs.laws.Keeps.{step_ask}
-use Rattle.states.specs.laws.Well.{well_start, well_follow}
+use Rattle.states.proofs.laws.Asked.{never_twice}
+use Rattle.states.proofs.laws.Keeps.{step_ask}
+use Rattle.states.proofs.laws.Well.{well_start, well_follow}
 
 pub once :
     (fs : List Filter) → well_filters fs ≡ true → (os os' : List Outcome) (o : Outcome) (q : Item) → question_of (follow fs os (start fs)) ≡ ask q →

@@ -12,10 +12,10 @@ use Rattle.lists.specs.Filters.{Filter, filters_of, tests_in}
 use Rattle.lists.specs.Ranks.{matches}
 use Rattle.states.specs.States.{start, is_open}
 use Rattle.states.specs.Runs.{asked_in}
-use Rattle.states.specs.laws.Truth.{InWidths}
+use Rattle.states.proofs.laws.Truth.{InWidths}
 use Rattle.states.specs.inner.Choices.{Picked}
-use Rattle.states.specs.laws.Keeps.{question_left}
-use Rattle.states.specs.laws.Paths.{after}
+use Rattle.states.proofs.laws.Keeps.{question_left}
+use Rattle.states.proofs.laws.Paths.{after}
 use Rattle.tables.specs.Tables.{record_words, max_slots, slots_of}
 use Rattle.machine.specs.Box.{records_in}
 use Rattle.matcher.specs.Walk.{found, is_done}

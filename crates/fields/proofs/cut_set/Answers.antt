@@ -4,7 +4,7 @@ use borrow.Author.Tests.{not-true}
 use native.Mathlib.Omega.{arith}
 use mathlib.Core.Path.{sym, ◌∙◌}
 use Rattle.fields.specs.Ipv4.{protocol}
-use Rattle.fields.specs.laws.CutSet.{flags_none, code_none, ports_long, ports_none, later_none}
+use Rattle.fields.proofs.laws.CutSet.{flags_none, code_none, ports_long, ports_none, later_none}
 use Rattle.fields.proofs.cut_set.Goals as goal
 
 pub returns-then-in_set : goal.returns-then-in_set

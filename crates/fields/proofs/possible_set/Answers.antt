@@ -7,7 +7,7 @@ use Rattle.sets.specs.Sets.{set_of}
 use Rattle.sets.specs.laws.Members.{set_of_bound}
 use Rattle.fields.specs.Seen.{may_carry, chances}
 use Rattle.fields.specs.inner.Parts.{carried}
-use Rattle.fields.specs.laws.Cut.{packet_type}
+use Rattle.fields.proofs.laws.Cut.{packet_type}
 use Rattle.fields.proofs.possible_set.Goals as goal
 
 pub returns-then-not-may_be_type : goal.returns-then-not-may_be_type

@@ -1,7 +1,7 @@
 -- `fields::read_field` meets its contract: what a header that was read answers for a number is that field of the frame.
 -- Assumes nothing.
 use mathlib.Core.Path.{refl}
-use Rattle.fields.specs.laws.CutSet.{cut_set_lem, seen_agrees}
+use Rattle.fields.proofs.laws.CutSet.{cut_set_lem, seen_agrees}
 use Rattle.fields.proofs.read_field.Goals as goal
 
 pub cut_set-requires : goal.cut_set-requires

@@ -1,6 +1,6 @@
 -- `fields::read_header` meets its contract: its steps make a header.
 -- Assumes nothing.
-use Rattle.fields.specs.laws.Filling.{header_by_steps}
+use Rattle.fields.proofs.laws.Filling.{header_by_steps}
 use Rattle.fields.proofs.read_header.Goals as goal
 
 pub read_internet-set-requires : goal.read_internet-set-requires

@@ -1,7 +1,7 @@
 -- `gateway::judge` meets its contract: each refusal is a case of the definition, and so is the walk.
 -- Assumes nothing.
 use mathlib.Core.Path.{sym, ◌∙◌}
-use Rattle.gateway.specs.laws.Judging.{judged_room, judged_verdicts, judged_walk}
+use Rattle.gateway.proofs.laws.Judging.{judged_room, judged_verdicts, judged_walk}
 use Rattle.gateway.proofs.judge.Goals as goal
 
 pub returns-then-tallies-ne-TALLIES : goal.returns-then-tallies-ne-TALLIES

@@ -4,7 +4,7 @@ use Prim.Native.Nat.{ℕ}
 use mathlib.Core.Path.{ap, ◌∙◌}
 use native.Mathlib.Omega.{arith}
 use Rattle.gateway.specs.Gateway.{counted_at, judged_by}
-use Rattle.gateway.specs.laws.Lowest.{lowest_below}
+use Rattle.gateway.proofs.laws.Lowest.{lowest_below}
 use Rattle.gateway.proofs.judge_walk.Goals as goal
 
 pub count_frame-requires : goal.count_frame-requires

@@ -25,10 +25,10 @@ use Rattle.lists.specs.laws.Items.{kind_some, kind_known, item_round}
 use Rattle.states.specs.States.{State, nothing, question_of, step_by}
 use Rattle.states.specs.Runs.{way_of}
 use Rattle.states.specs.inner.Choices.{Leads, leads_none, leads_more, Chosen, OfFrame}
-use Rattle.states.specs.laws.Well.{item_field}
-use Rattle.states.specs.laws.Choices.{path_of, path_free}
-use Rattle.states.specs.laws.Well.{well_state, well_left_lem, well_step, well_leads}
-use Rattle.states.specs.laws.Keeps.{by_question, left_asks}
+use Rattle.states.proofs.laws.Well.{item_field}
+use Rattle.states.proofs.laws.Choices.{path_of, path_free}
+use Rattle.states.proofs.laws.Well.{well_state, well_left_lem, well_step, well_leads}
+use Rattle.states.proofs.laws.Keeps.{by_question, left_asks}
 use Rattle.tables.specs.Tables.{word_of, next_at, holds_at, fails_at}
 use Rattle.tables.specs.inner.Records.{question_at, way_at}
 use Rattle.matcher.specs.Walk.{found_at, damaged, next_by, next_of, cut_of, walk_from}

@@ -14,10 +14,10 @@ use Rattle.residue.specs.declared.Reading.{Reading}
 use Rattle.residue.specs.declared.Outcome.{Outcome}
 use Rattle.fields.specs.Seen.{is_cut, seen}
 use Rattle.fields.specs.declared.Seen.{Seen}
-use Rattle.fields.specs.laws.Cut.{seen_reading}
+use Rattle.fields.proofs.laws.Cut.{seen_reading}
 use Rattle.fields.specs.Ethernet.{max_frame}
 use Rattle.fields.specs.Fields.{field}
-use Rattle.fields.specs.laws.Values.{value_in_width}
+use Rattle.fields.proofs.laws.Values.{value_in_width}
 use Rattle.sets.specs.Sets.{set_of, member}
 use Rattle.sets.specs.laws.Members.{tally_ext}
 use Rattle.lists.specs.inner.Well.{well_filters}
@@ -25,13 +25,13 @@ use Rattle.lists.specs.Filters.{Item, Filter, tests_in}
 use Rattle.lists.specs.Ranks.{fires, matches, match_set}
 use Rattle.states.specs.States.{State, start, Question, nothing, ask, question_of, step_by, standing, is_out, sure, is_open, sure_set, out_set}
 use Rattle.states.specs.Runs.{advance, run, asked_in}
-use Rattle.states.specs.laws.Choices.{path_of, path_free}
+use Rattle.states.proofs.laws.Choices.{path_of, path_free}
 use Rattle.states.specs.inner.Choices.{Leads, leads_none, leads_more, Chosen, Picked, OfFrame, Free}
-use Rattle.states.specs.laws.Keeps.{advance_ask, picks_run}
-use Rattle.states.specs.laws.Well.{well_state, well_start}
-use Rattle.states.specs.laws.Truth.{InWidths}
-use Rattle.states.specs.laws.Stays.{leads_sure, leads_out}
-use Rattle.states.specs.laws.Paths.{member_sure, member_out, PathTruth, path_truth}
+use Rattle.states.proofs.laws.Keeps.{advance_ask, picks_run}
+use Rattle.states.proofs.laws.Well.{well_state, well_start}
+use Rattle.states.proofs.laws.Truth.{InWidths}
+use Rattle.states.proofs.laws.Stays.{leads_sure, leads_out}
+use Rattle.states.proofs.laws.Paths.{member_sure, member_out, PathTruth, path_truth}
 use Rattle.tables.specs.Tables.{slots_of}
 use Rattle.matcher.specs.declared.Found.{Found}
 use Rattle.matcher.specs.declared.Answer.{Answer}

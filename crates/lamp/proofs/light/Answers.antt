@@ -1,7 +1,7 @@
 -- `lamp::light` meets its contract: a list that is refused gives its refusal, one that is accepted the lamp.
 -- Assumes nothing.
 use mathlib.Core.Path.{sym, ◌∙◌}
-use Rattle.lamp.specs.laws.Turns.{lamp_refused}
+use Rattle.lamp.proofs.laws.Turns.{lamp_refused}
 use Rattle.lamp.proofs.light.Goals as goal
 
 pub light_accepted-requires : goal.light_accepted-requires

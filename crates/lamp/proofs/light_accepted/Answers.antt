@@ -9,12 +9,12 @@ use lib.Dec.{eqb, ltb}
 use lib.ListN.{length, take, replicate}
 use lib.Seq.{length-take-le}
 use Rattle.fields.specs.Ethernet.{max_frame}
-use Rattle.fields.specs.laws.Header.{read_once}
+use Rattle.fields.proofs.laws.Header.{read_once}
 use Rattle.lists.specs.Filters.{max_filters}
 use Rattle.lists.specs.laws.Accepted.{accepted_count}
 use Rattle.slots.specs.Words.{filter_slot, slot_words}
 use Rattle.tables.specs.Tables.{slots_of}
-use Rattle.lamp.specs.laws.Turns.{lamp_walks}
+use Rattle.lamp.proofs.laws.Turns.{lamp_walks}
 use Rattle.lamp.proofs.Steps.{fits_in, fault_in, faulted, faultless}
 use Rattle.lamp.proofs.light_accepted.Goals as goal
 use Rattle.lamp.proofs.light_accepted.Goals.{Else-fault-ne0}

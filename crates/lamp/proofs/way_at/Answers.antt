@@ -6,7 +6,7 @@ use native.Mathlib.Omega.{arith}
 use lib.ListN.{get_or}
 use Rattle.tables.specs.Tables.{record_words, word_of}
 use Rattle.tables.specs.inner.Records.{way_at}
-use Rattle.tables.specs.laws.Layout.{next_within}
+use Rattle.tables.proofs.laws.Layout.{next_within}
 use Rattle.lamp.proofs.way_at.Goals as goal
 
 pub overflow_add-result : goal.overflow_add-result

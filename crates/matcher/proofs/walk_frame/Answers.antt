@@ -3,8 +3,8 @@
 use native.Mathlib.Nat.{pos_of_ne-zero}
 use mathlib.Core.Path.{refl, sym, ◌∙◌}
 use borrow.Author.Tests.{lt-ltb, le-ltb}
-use Rattle.matcher.specs.laws.Walks.{walk_long, walk_none, walk_misfit, walk_fits}
-use Rattle.fields.specs.laws.CutSet.{seen_once}
+use Rattle.matcher.proofs.laws.Walks.{walk_long, walk_none, walk_misfit, walk_fits}
+use Rattle.fields.proofs.laws.CutSet.{seen_once}
 use Rattle.matcher.proofs.walk_frame.Goals as goal
 
 pub returns-then-frame-gt-MAX_FRAME : goal.returns-then-frame-gt-MAX_FRAME

@@ -15,7 +15,7 @@ use Rattle.fields.specs.Seen.{reading_of}
 use Rattle.fields.specs.inner.Sight.{seen_at}
 use Rattle.fields.specs.inner.Parts.{lacking}
 use Rattle.fields.specs.declared.Seen.{Seen}
-use Rattle.fields.specs.laws.CutSet.{seen_at_reading, seen_at_cut}
+use Rattle.fields.proofs.laws.CutSet.{seen_at_reading, seen_at_cut}
 use Rattle.matcher.specs.Walk.{next_of, cut_of}
 use Rattle.matcher.specs.inner.Records.{meets}
 use Rattle.matcher.proofs.Linked.{walked_on}

@@ -1,7 +1,7 @@
 -- `scanner::scan_accepted` meets its contract: a header that was read once reads every field as the frame has it, and of the filters
 -- that hold by it the topmost are the match set. Assumes nothing.
 use mathlib.Core.Path.{refl, sym, ◌∙◌}
-use Rattle.fields.specs.laws.Header.{read_once}
+use Rattle.fields.proofs.laws.Header.{read_once}
 use Rattle.lists.specs.laws.Accepted.{accepted_count}
 use Rattle.scanner.proofs.Tops.{top_held, lone_held}
 use Rattle.scanner.proofs.scan_accepted.Goals as goal

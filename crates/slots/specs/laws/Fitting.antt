@@ -10,7 +10,7 @@ use Rattle.lists.specs.inner.Well.{well_filter, well_filters}
 use Rattle.lists.specs.laws.Accepted.{well_few}
 use Rattle.states.specs.States.{Standing, out, State, cut_standing, beaten, closed_from, closed, all_left, start, step_by}
 use Rattle.states.specs.inner.Remaining.{remaining_in}
-use Rattle.states.specs.laws.Measure.{cut_standing_le, closed_le}
+use Rattle.states.proofs.laws.Measure.{cut_standing_le, closed_le}
 
 unfoldable pub fits_standing : Standing → Bool
 fits_standing x = leb (remaining_in x) max_tests

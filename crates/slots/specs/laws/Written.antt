@@ -34,7 +34,7 @@ use Rattle.lists.specs.laws.Ranking.{get_d_rank_sets, rank_set_in, rank_set_clea
 use Rattle.states.specs.States.{Standing, out, left, State, standing, is_held, is_out, cut_standing, beaten, closed_from, closed, all_left, start, Question, nothing, ask, question_of, step_by, step_at, step, sure, sure_set, out_set}
 use Rattle.states.specs.Runs.{asks}
 use Rattle.states.specs.Same.{same_state}
-use Rattle.states.specs.laws.Same.{same_state_eq, same_state_refl}
+use Rattle.states.proofs.laws.Same.{same_state_eq, same_state_refl}
 use Rattle.slots.specs.Words.{question_words, filter_slot}
 use Rattle.slots.specs.inner.Words.{out_mark, items_words, out_words, written_filter, written, read_filter}
 use Rattle.slots.specs.inner.Slots.{head_of, held_set, out_set_in, sure_set_in, closed_in, closed_words, has_test, four_words, question_in, asks_in, cut_words, step_question, step_words, start_words, same_words}

@@ -7,7 +7,7 @@ use mathlib.Core.List.{List}
 use native.Mathlib.Omega.{arith}
 use lib.Arith.{lt_of_le-ne}
 use Rattle.tables.specs.inner.Records.{agree, fresh_by, record_at, agreeing_from}
-use Rattle.tables.specs.laws.Agreeing.{agreeing_here, agreeing_on, agreeing_end}
+use Rattle.tables.proofs.laws.Agreeing.{agreeing_here, agreeing_on, agreeing_end}
 use Rattle.tables.proofs.agreeing.Invariants.{Left}
 use Rattle.tables.proofs.agreeing.Goals as goal
 

@@ -12,7 +12,7 @@ use Rattle.tables.specs.declared.Fresh.{Fresh}
 use Rattle.lists.specs.Filters.{kind_at, field_at, mask_at, value_at}
 use Rattle.tables.specs.Tables.{record_words, sure_at, out_at, record_with, set_at}
 use Rattle.tables.specs.inner.Records.{fresh_record, fresh_by, agree, record_at}
-use Rattle.tables.specs.laws.Layout.{sure_in, out_in}
+use Rattle.tables.proofs.laws.Layout.{sure_in, out_in}
 use Rattle.tables.proofs.agrees.Goals as goal
 
 -- What is so of the part of the table that is looked at is so of the record.

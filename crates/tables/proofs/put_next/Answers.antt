@@ -6,7 +6,7 @@ use native.Mathlib.Omega.{arith}
 use lib.ListN.{set}
 use Rattle.tables.specs.Tables.{record_words}
 use Rattle.tables.specs.inner.Records.{with_next}
-use Rattle.tables.specs.laws.Layout.{next_within}
+use Rattle.tables.proofs.laws.Layout.{next_within}
 use Rattle.tables.proofs.put_next.Goals as goal
 
 pub overflow_add-at : goal.overflow_add-at

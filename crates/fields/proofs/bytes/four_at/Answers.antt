@@ -4,7 +4,7 @@ use borrow.Author.Rules.{rules}
 use native.Mathlib.Omega.{arith}
 use Prim.Native.Nat.{◌+◌}
 use Rattle.fields.specs.Bytes.{four}
-use Rattle.fields.specs.laws.Bytes.{two_fits}
+use Rattle.fields.proofs.laws.Bytes.{two_fits}
 use Rattle.fields.proofs.bytes.four_at.Goals as goal
 
 pub overflow_mul-result : goal.overflow_mul-result

@@ -1,7 +1,7 @@
 -- `fields::ethernet::read_ethernet` meets its contract: the box port is put, and the type where the frame has one; a frame without it has no packet.
 -- Assumes nothing.
 use mathlib.Core.Path.{sym, ◌∙◌}
-use Rattle.fields.specs.laws.Filling.{then}
+use Rattle.fields.proofs.laws.Filling.{then}
 use Rattle.fields.proofs.Headers.{is_type, no_type, unframed}
 use Rattle.fields.proofs.ethernet.read_ethernet.Goals as goal
 

@@ -1,7 +1,7 @@
 -- `fields::ipv4::fill_header` meets its contract: its puts are the definition's, one after the other.
 -- Assumes nothing.
 use Rattle.fields.specs.Ipv4.{internet_puts, total_length, protocol}
-use Rattle.fields.specs.laws.Filling.{then}
+use Rattle.fields.proofs.laws.Filling.{then}
 use Rattle.fields.proofs.ipv4.fill_header.Goals as goal
 
 pub returns : goal.returns

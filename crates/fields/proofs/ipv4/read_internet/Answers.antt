@@ -1,7 +1,7 @@
 -- `fields::ipv4::read_internet` meets its contract: a packet's header is put, and nothing where there is no packet.
 -- Assumes nothing.
 use mathlib.Core.Path.{sym, ◌∙◌}
-use Rattle.fields.specs.laws.Filling.{unchanged}
+use Rattle.fields.proofs.laws.Filling.{unchanged}
 use Rattle.fields.proofs.Headers.{PacketAt, is_packet, no_packet}
 use Rattle.fields.proofs.ipv4.read_internet.Goals as goal
 use Rattle.fields.proofs.ipv4.read_internet.Goals.{In-Whole}

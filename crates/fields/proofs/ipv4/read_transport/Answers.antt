@@ -3,7 +3,7 @@
 use native.Mathlib.Omega.{arith}
 use mathlib.Core.Path.{sym, ◌∙◌}
 use Rattle.fields.specs.Ipv4.{protocol}
-use Rattle.fields.specs.laws.Filling.{unchanged}
+use Rattle.fields.proofs.laws.Filling.{unchanged}
 use Rattle.fields.proofs.Headers.{PacketAt, is_packet, no_packet}
 use Rattle.fields.proofs.ipv4.read_transport.Goals as goal
 use Rattle.fields.proofs.ipv4.read_transport.Goals.{In-Whole}

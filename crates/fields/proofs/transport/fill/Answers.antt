@@ -1,6 +1,6 @@
 -- `fields::transport::fill` meets its contract: each protocol's own function has it, and no other protocol has these fields.
 -- Assumes nothing.
-use Rattle.fields.specs.laws.Filling.{unchanged}
+use Rattle.fields.proofs.laws.Filling.{unchanged}
 use Rattle.fields.proofs.Transports.{other}
 use Rattle.fields.proofs.transport.fill.Goals as goal
 

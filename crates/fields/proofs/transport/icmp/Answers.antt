@@ -1,6 +1,6 @@
 -- `fields::transport::icmp` meets its contract: no byte, one byte or more put nothing, the type, or type and code.
 -- Assumes nothing.
-use Rattle.fields.specs.laws.Filling.{unchanged, then}
+use Rattle.fields.proofs.laws.Filling.{unchanged, then}
 use Rattle.fields.proofs.Transports.{icmp_none, icmp_type, icmp_whole}
 use Rattle.fields.proofs.transport.icmp.Goals as goal
 

@@ -1,6 +1,6 @@
 -- `fields::transport::tcp` meets its contract: to what the ports' promise says, fourteen bytes add the flags.
 -- Assumes nothing.
-use Rattle.fields.specs.laws.Filling.{then}
+use Rattle.fields.proofs.laws.Filling.{then}
 use Rattle.fields.proofs.Transports.{tcp_short, tcp_whole}
 use Rattle.fields.proofs.transport.tcp.Goals as goal
 

@@ -3,7 +3,7 @@
 use native.Mathlib.Omega.{arith}
 use Prim.Native.Nat.{◌<◌}
 use lib.ListN.{length}
-use Rattle.fields.specs.laws.Filling.{unchanged, then}
+use Rattle.fields.proofs.laws.Filling.{unchanged, then}
 use Rattle.fields.proofs.Transports.{udp_short, udp_whole}
 use Rattle.fields.proofs.transport.udp.Goals as goal
 

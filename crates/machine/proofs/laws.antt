@@ -1,0 +1,4 @@
+pub mod Lawful
+pub mod Carried
+pub mod Front
+pub mod Remaining

@@ -1,0 +1,21 @@
+-- What placing a list's states comes to.
+--   whole          in so many slots: their words and records, or a state without one
+--   PlacesStates   from these words on, the builder of n filters places the list's states, or finds no slot
+use Rattle.std.specs.Prelude.{ℕ, ◌≡◌, cond, List, map, leb, length}
+use Rattle.lists.specs.Filters.{Filter}
+use Rattle.lists.specs.Ranks.{rank_sets}
+use Rattle.slots.specs.inner.Words.{written}
+use Rattle.automaton.specs.Machines.{record_of}
+use Rattle.automaton.specs.inner.Placing.{Placement, slotless, slotted, place_all}
+use Rattle.automaton.proofs.laws.MetPlaced.{holding}
+use Rattle.machine.specs.Box.{box_of, states_of}
+use Rattle.machine.specs.inner.Slots.{slots_in}
+
+-- What placing a list's states comes to in so many slots: their words and records, or a state without one.
+abbrev pub whole : (n : ℕ) (ranks : List ℕ) → List Filter → ℕ → Placement (slots_in n ranks)
+whole n ranks fs slots =
+    cond (leb (length (states_of fs)) slots) (slotted (holding (map written (states_of fs)) (map (record_of (box_of fs) (states_of fs)) (states_of fs)))) slotless
+
+-- With k questions at most to follow one another, from the words w on, the builder of n filters places the list's states, or finds no slot.
+abbrev pub PlacesStates : List Filter → ℕ → ℕ → ℕ → List ℕ → Type 0
+PlacesStates fs n slots k w = place_all (slots_in n (rank_sets fs)) slots k w ≡ whole n (rank_sets fs) fs slots

@@ -1,3 +1,0 @@
-pub mod Lawful
-pub mod Carried
-pub mod Front
