@@ -10,7 +10,7 @@ use native.Mathlib.Omega.{arith}
 use lib.Dec.{eqb}
 use lib.ListN.{length, take, drop, get_or}
 use Rattle.sets.specs.Sets.{tally}
-use Rattle.sets.specs.laws.Members.{tally_more, get_d_tally, length_tally}
+use Rattle.sets.specs.laws.Members.{tally_more, get_or_tally, length_tally}
 use Rattle.tables.specs.inner.Records.{agree, fresh_by, record_at, agreeing_from}
 use Rattle.tables.proofs.laws.Agreeing.{agreeing_in, agreeing_over}
 use Rattle.tables.specs.declared.Fresh.{Fresh}
@@ -53,8 +53,8 @@ shown n used ranks t s c f told is i h e =
     let M = slots_in n ranks in
     let met : List (List ℕ) = tally used (λ k. slot_at n s k) in
     let records : List (List ℕ) = tally used (λ k. record_at t k) in
-    let state : get_or met i [] ≡ c = get_d_tally used (λ k. slot_at n s k) [] i h ∙ same_words_eq (slot_at n s i) c e in
-    ap (λ (r : List ℕ). agree r (fresh_by f)) (sym (get_d_tally used (λ k. record_at t k) [] i h))
+    let state : get_or met i [] ≡ c = get_or_tally used (λ k. slot_at n s k) [] i h ∙ same_words_eq (slot_at n s i) c e in
+    ap (λ (r : List ℕ). agree r (fresh_by f)) (sym (get_or_tally used (λ k. record_at t k) [] i h))
     ∙ ap (λ (w : List ℕ). agree (get_or records i []) w) (is ∙ ap (λ (x : List ℕ). fresh_of M x) (sym state))
     ∙ told_at M met records i [] told (subst (λ (m : ℕ). i < m) (sym (length_tally used (λ k. slot_at n s k))) h)
 

@@ -6,7 +6,7 @@
 --   fits_in                  a number of states that is neither 0 nor above the slots
 --   fault_in f t m            the refusal's number before the walk, 0 where there is none
 --   faulted, faultless       with such a number the lamp is refused; without, frame and number of states are fine
--- A turn with the question's words q: ended_here, Asking (there is a question), asking, gone-astray, gone-on.
+-- A turn with the question's words q: ended_here, Asking (there is a question), asking, gone_astray, gone_on.
 -- Assumes nothing.
 use Prim.Native.Nat.{ℕ, suc, ◌+◌, ◌-◌, ◌*◌, ◌≤◌, ◌<◌}
 use native.Mathlib.Nat.{sub-zero}
@@ -37,7 +37,8 @@ use Rattle.states.specs.inner.Remaining.{remaining}
 use Rattle.states.proofs.laws.Keeps.{by_question, advance_ask}
 use Rattle.states.proofs.laws.Measure.{start_remaining, asking_remaining, step_falls}
 use Rattle.states.proofs.laws.Standings.{length_start, length_step}
-use Rattle.states.proofs.laws.Well.{well_state, well_start, well_step}
+use Rattle.states.proofs.laws.Well.{well_start, well_step}
+use Rattle.states.specs.inner.Well.{well_state}
 use Rattle.slots.specs.Words.{question_words}
 use Rattle.slots.specs.inner.Words.{written}
 use Rattle.slots.specs.inner.Slots.{held_set, question_in, step_question}

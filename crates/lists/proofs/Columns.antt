@@ -1,7 +1,7 @@
 -- Groups and levels read into two columns, and ranks worked out from the columns.
---   filters_turn, filters-end    the filters from a place on: one and the rest; none
+--   filters_turn, filters_end    the filters from a place on: one and the rest; none
 --   Partway                      what has been written and what is still to be read make the whole
---   partway_start, partway-turn, partway_end
+--   partway_start, partway_turn, partway_end
 --   ranks_agree                  the columns give the list's own ranks
 -- Assumes nothing.
 use Prim.Native.Nat.{ℕ, suc, ◌+◌, ◌-◌, ◌≤◌, ◌<◌}

@@ -1,7 +1,7 @@
 -- One turn of each loop over a list's words, as a step of the definition.
 --   words_at                     a test's fault from the four words at its place
---   tests_turn, tests-found      the next test has no fault; it has one
---   list_turn, list-found        the next filter has no fault; it has one
+--   tests_turn, tests_found      the next test has no fault; it has one
+--   list_turn, list_found        the next filter has no fault; it has one
 -- Assumes nothing.
 use Prim.Native.Nat.{ℕ, zero, suc, ◌+◌, ◌-◌, ◌<◌}
 use mathlib.Core.Path.{◌≡◌, refl, ◌∙◌}

@@ -1,7 +1,7 @@
 -- The filters of a set above which none of the set ranks.
 --   top_columns     by the columns, as by the list
 --   lone_held       where one filter holds at most, those that hold are the match set
---   top_matches, top-held   of the filters that hold, the match set
+--   top_matches, top_held   of the filters that hold, the match set
 use Prim.Native.Nat.{ℕ, ◌-◌, ◌<◌}
 use mathlib.Core.Path.{◌≡◌, sym, ap, ap₂, ◌∙◌, subst}
 use mathlib.Core.Bool.{Bool, true, false, not, ◌&&◌}
@@ -14,7 +14,7 @@ use Rattle.residue.specs.laws.Choice.{same_bool, clash}
 use Rattle.residue.specs.declared.Reading.{Reading}
 use Rattle.sets.specs.Sets.{set_of, tally, member, some}
 use Rattle.sets.specs.laws.Lone.{alone}
-use Rattle.sets.specs.laws.Members.{member_tally, get_d_tally, tally_ext, some_ext}
+use Rattle.sets.specs.laws.Members.{member_tally, get_or_tally, tally_ext, some_ext}
 use Rattle.lists.specs.Filters.{Filter}
 use Rattle.lists.specs.Ranks.{above, fires, matches, match_set}
 use Rattle.lists.specs.inner.Columns.{above_by, Heads}
@@ -55,7 +55,7 @@ module _ (fs : List Filter) where
         (λ j m. ap (λ (b : Bool). above fs j i && b) (in_held j m)))))
 
     in_tally : (i : ℕ) → fires fs r i ≡ true → get_or (tally (length fs) (fires fs r)) i false ≡ true
-    in_tally i e = get_d_tally (length fs) (fires fs r) false i (T.fires_below fs r i e) ∙ e
+    in_tally i e = get_or_tally (length fs) (fires fs r) false i (T.fires_below fs r i e) ∙ e
 
     lone_matches : bit_and held (held - 1) ≡ 0 → held ≡ match_set fs r
     unfolding match_set

@@ -1,2 +1,3 @@
 pub mod Remaining
 pub mod Choices
+pub mod Well

@@ -16,7 +16,8 @@ use Rattle.automaton.specs.inner.Lawful.{Lawful}
 use Rattle.automaton.proofs.laws.Visited.{Visits, old, final, asking, visits_exist, visits_visit}
 use Rattle.automaton.proofs.laws.Reaching.{visits_good}
 use Rattle.automaton.specs.inner.Placing.{slotless, slotted, place_all}
-use Rattle.automaton.proofs.laws.MetPlaced.{holding, Fit, placed_visits}
+use Rattle.automaton.proofs.laws.MetPlaced.{Fit, placed_visits}
+use Rattle.automaton.specs.inner.Placing.{holding}
 
 pub record Carried (M N : Machine) (Good : M.State → Type 0) (enc : M.State → N.State) : Type 0 where
   pub asks_carried : (s : M.State) → Good s → N.asks (enc s) ≡ M.asks s

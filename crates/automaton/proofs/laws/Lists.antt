@@ -34,10 +34,10 @@ each_left a b all x m = all x (Memᴰ.append_left b m)
 pub each_right : {A : Type 0} {P : A → Type 0} (a b : List A) → Each P (a ++ b) → Each P b
 each_right a b all x m = all x (Memᴰ.append_right a m)
 
-pub get_d_mem : {A : Type 0} (l : List A) (i : ℕ) (d : A) → i < length l → Memᴰ (get_or l i d) l
-get_d_mem [] i d h = absurd (not-suc-le-zero h)
-get_d_mem (x ∷ l) zero d h = Memᴰ.head refl
-get_d_mem (x ∷ l) (suc i) d h = Memᴰ.tail (get_d_mem l i d (le_of_suc-le-suc h))
+pub get_or_mem : {A : Type 0} (l : List A) (i : ℕ) (d : A) → i < length l → Memᴰ (get_or l i d) l
+get_or_mem [] i d h = absurd (not-suc-le-zero h)
+get_or_mem (x ∷ l) zero d h = Memᴰ.head refl
+get_or_mem (x ∷ l) (suc i) d h = Memᴰ.tail (get_or_mem l i d (le_of_suc-le-suc h))
 
 -- A list that begins another.
 

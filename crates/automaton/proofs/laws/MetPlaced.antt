@@ -1,5 +1,4 @@
 -- The builder places exactly the states met, each with its record, or finds no slot where they are more than the slots.
---   holding met records  the two lists as a memory
 --   Fit M s             what placing asks of a state: it is the same as itself, and its question has the words of one
 use Rattle.std.specs.Prelude.{ℕ, zero, suc, ◌≤◌, ◌<◌, ◌≡◌, refl, Bool, true, false, cond, List, [], ◌∷◌, ◌++◌, map, leb, length, set}
 use Rattle.std.proofs.Common.{arith, sym, ap, ◌∙◌, subst, append_assoc, append-nil, length-append, leb-true, leb-false, le-leb}
@@ -12,12 +11,9 @@ use Rattle.tables.specs.inner.Records.{ask_words, fresh_record}
 use Rattle.tables.proofs.laws.Layout.{fresh_linked}
 use Rattle.automaton.specs.Machines.{Machine, meets, place_of, nexts_of, record_of}
 use Rattle.automaton.proofs.laws.Lists.{each_head, each_tail, each_left, each_right, Each, Begins, begins_refl, begins_append, begins_trans, begins_length}
-use Rattle.automaton.specs.inner.Placing.{Memory, Placement, slotless, slotted, fresh_of, stored, linked, and_then, place_way, place_state, place_all}
+use Rattle.automaton.specs.inner.Placing.{holding, Memory, Placement, slotless, slotted, fresh_of, stored, linked, and_then, place_way, place_state, place_all}
 use Rattle.automaton.proofs.laws.Visited.{Visits, old, final, asking, three_ways}
 use Rattle.automaton.proofs.laws.Places.{meets_nil, place_begins, place_begins_new}
-
-abbrev pub holding : {M : Machine} → List M.State → List (List ℕ) → Memory M
-holding met records = record { met = met; records = records }
 
 pub record Fit (M : Machine) (s : M.State) : Type 0 where
   pub itself : M.same s s ≡ true

@@ -1,8 +1,8 @@
 -- Every record that is placed has the question and the sets of its state: storing a state and putting in a next number keep it, so building ways does.
 --   ToldBy M p     so it is of the memory that placing comes to, if all states found a slot
 --   told_at        record i and state i
---   told_none, told-stored, told-linked   of no states, of one state more, with one next number more
---   told_way, told-state   of the memory after a way, and after all ways of a state
+--   told_none, told_stored, told_linked   of no states, of one state more, with one next number more
+--   told_way, told_state   of the memory after a way, and after all ways of a state
 use Prim.Native.Nat.{ℕ, zero, suc, ◌<◌}
 use Rattle.std.proofs.Common.{arith, ◌∙◌}
 use Rattle.std.specs.Prelude.{◌≡◌, Bool, leb, length, get_or, set}

@@ -1,5 +1,6 @@
 -- How the builder places states and records, one after the other, for any machine; no part of document 01.
 --   Memory           the states stored so far and their records, whose next numbers are put in as they become known
+--   holding met records   the two lists as a memory
 --   Placement        the memory afterwards, all states in slots, or slotless: a new state found none
 --   place_state       builds the three ways of the state stored at a place, with n slots in all; f is more than the questions that can follow
 --   place_way         builds one way: its state is met, built if it is new, and its number put into the record
@@ -14,6 +15,9 @@ use Rattle.automaton.specs.Machines.{Machine, meets, place_of}
 pub record Memory (M : Machine) : Type 0 where
   pub met : List M.State
   pub records : List (List ℕ)
+
+abbrev pub holding : {M : Machine} → List M.State → List (List ℕ) → Memory M
+holding met records = record { met = met; records = records }
 
 pub data Placement (M : Machine) : Type 0 where
   slotless : Placement M

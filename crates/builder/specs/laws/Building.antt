@@ -19,7 +19,7 @@ use Rattle.slots.specs.Words.{slot_words}
 use Rattle.slots.specs.inner.Words.{written}
 use Rattle.automaton.specs.Machines.{Machine, record_of, records_of, flat}
 use Rattle.automaton.specs.inner.Placing.{Memory, Placement, slotless, slotted}
-use Rattle.automaton.proofs.laws.MetPlaced.{holding}
+use Rattle.automaton.specs.inner.Placing.{holding}
 use Rattle.machine.specs.Box.{box_of, states_of, records_in}
 use Rattle.machine.specs.inner.Slots.{slots_in}
 use Rattle.builder.specs.Outcome.{Left, table_words, scratch_words, refused, no_room, placed, by_room, outcome_by, outcome, Answered}

@@ -6,7 +6,7 @@ use Rattle.std.proofs.Common.{sym, ◌∙◌, subst, arith, length-set, ext_get_
 use mathlib.Core.List.{List, [], ◌∷◌, ◌++◌}
 use Rattle.std.proofs.lemmas.Bool.{eqb-false}
 use Rattle.sets.specs.Sets.{tally}
-use Rattle.sets.specs.laws.Members.{tally_ext, tally_more, get_d_tally, length_tally}
+use Rattle.sets.specs.laws.Members.{tally_ext, tally_more, get_or_tally, length_tally}
 use Rattle.residue.specs.declared.Outcome.{Outcome}
 use Rattle.words.specs.laws.Lending.{part_kept}
 use Rattle.tables.specs.Tables.{record_words, next_at}
@@ -58,10 +58,10 @@ set_tally {A} n at p q d h other =
         go true e =
             let eq : i ≡ at = eqb-true i at e in
             subst (λ (k : ℕ). get_or (set (tally n p) at (q at)) k d ≡ get_or (tally n q) k d) (sym eq)
-            (get_or-set_same (tally n p) at (q at) d (subst (λ (m : ℕ). at < m) (sym (length_tally n p)) h) ∙ sym (get_d_tally n q d at h))
+            (get_or-set_same (tally n p) at (q at) d (subst (λ (m : ℕ). at < m) (sym (length_tally n p)) h) ∙ sym (get_or_tally n q d at h))
         go false e =
             get_or-set_other (tally n p) at i (q at) d (eqb-false i at e)
-            ∙ get_d_tally n p d i below ∙ sym (other i (eqb-false i at e)) ∙ sym (get_d_tally n q d i below)
+            ∙ get_or_tally n p d i below ∙ sym (other i (eqb-false i at e)) ∙ sym (get_or_tally n q d i below)
 
 -- A next number that is put into the table is put into that record alone.
 pub records_linked : (used at v : ℕ) (o : Outcome) (t : List ℕ) → at < used
@@ -69,6 +69,6 @@ pub records_linked : (used at v : ℕ) (o : Outcome) (t : List ℕ) → at < use
 unfolding records_at
 records_linked used at v o t h =
     sym
-    (ap (λ (x : List ℕ). set (tally used (λ i. record_at t i)) at (set x (next_at o) v)) (get_d_tally used (λ i. record_at t i) [] at h)
+    (ap (λ (x : List ℕ). set (tally used (λ i. record_at t i)) at (set x (next_at o) v)) (get_or_tally used (λ i. record_at t i) [] at h)
     ∙ ap (λ (x : List ℕ). set (tally used (λ i. record_at t i)) at x) (sym (next_same at o v t))
     ∙ set_tally used at (λ i. record_at t i) (λ i. record_at (with_next at o v t) i) [] h (next_other at o v t))

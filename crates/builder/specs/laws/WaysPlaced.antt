@@ -10,7 +10,7 @@ use Rattle.std.proofs.Math.ListN.{get_or}
 use Rattle.std.proofs.Math.Seq.{get_or_at}
 use Rattle.residue.specs.declared.Outcome.{Outcome}
 use Rattle.residue.specs.declared.Outcome.TheVariants as O
-use Rattle.sets.specs.laws.Members.{length_tally, get_d_tally}
+use Rattle.sets.specs.laws.Members.{length_tally, get_or_tally}
 use Rattle.words.specs.laws.Lending.{later, earlier}
 use Rattle.tables.specs.Tables.{record_words}
 use Rattle.tables.specs.inner.Records.{with_next}
@@ -110,7 +110,7 @@ module _ (n slots : ℕ) (ranks : List ℕ) (at used : ℕ) (o : Outcome) (t s :
     unfolding memory_of states_in stored
     slot_new =
         let met = ap (λ (m : Memory (slots_in n ranks)). m.met) meeting.2 in
-        sym (get_d_tally (used + 1) (λ i. slot_at n s₁ i) [] used (omega arith))
+        sym (get_or_tally (used + 1) (λ i. slot_at n s₁ i) [] used (omega arith))
         ∙ ap (λ (l : List (List ℕ)). get_or l used []) met
         ∙ get_or_at (states_in n used s) stepped [] [] used (length_states n used s)
 

@@ -5,7 +5,7 @@
 --   header_turn       a record's header is taken, with what the record counts
 --   frame_turn        a whole record is taken
 --   wait-header, wait-frame   a record waits for more bytes
---   short_tallied, long-tallied, frame-tallied   what a record counts
+--   short_tallied, long_tallied, frame_tallied   what a record counts
 -- Assumes nothing.
 use Prim.Native.Nat.{ℕ, zero, suc, ◌+◌, ◌-◌, ◌≤◌, ◌<◌}
 use Rattle.std.specs.Prelude.{◌≡◌, Bool, ◌||◌, List, []}

@@ -1,7 +1,7 @@
 -- What stands within the bytes at hand does not depend on those that come later.
---   word_within, opened-within       a number, the file's header
---   captured_within, passes-within   a record's header
---   tallied_header, tallied-whole    what a record counts, by its header alone or whole
+--   word_within, opened_within       a number, the file's header
+--   captured_within, passes_within   a record's header
+--   tallied_header, tallied_whole    what a record counts, by its header alone or whole
 -- Assumes nothing.
 use Rattle.std.specs.Prelude.{ℕ, ◌+◌, ◌-◌, ◌≤◌, ◌<◌, ◌≡◌, refl, Bool, cond, ◌||◌, List, ◌++◌, drop}
 use Rattle.std.proofs.Math.Path.{ap}

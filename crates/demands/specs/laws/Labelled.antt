@@ -11,7 +11,7 @@ use Rattle.states.specs.Runs.{asks}
 use Rattle.states.specs.inner.Choices.{Picked}
 use Rattle.states.proofs.laws.Keeps.{by_question, step_ask}
 use Rattle.automaton.specs.Machines.{meets, place_of, nexts_of}
-use Rattle.automaton.proofs.laws.Lists.{get_d_mem}
+use Rattle.automaton.proofs.laws.Lists.{get_or_mem}
 use Rattle.automaton.proofs.laws.Places.{mem_meets, place_below}
 use Rattle.tables.specs.Tables.{record_words, max_slots, slots_of, sure_set_at, out_set_at}
 use Rattle.tables.specs.inner.Records.{question_at, way_at}
@@ -41,10 +41,10 @@ module _ (fs : List Filter) (h : well_filters fs ≡ true) (rest : List ℕ) whe
 
   module _ (n : ℕ) (l : n < length met) where
     good : Good fs (give n)
-    good = states_good fs h (give n) (get_d_mem met n [] l)
+    good = states_good fs h (give n) (get_or_mem met n [] l)
 
     is_met : meets (box_of fs) met (give n) ≡ true
-    is_met = mem_meets (box_lawful fs) good (get_d_mem met n [] l)
+    is_met = mem_meets (box_lawful fs) good (get_or_mem met n [] l)
 
     sure_at_lem : sure_set_at table n ≡ sure_set fs (give n)
     sure_at_lem = (front_spells fs h rest n l).sure

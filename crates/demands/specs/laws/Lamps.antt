@@ -18,7 +18,8 @@ use Rattle.states.specs.States.{State, nothing, ask, question_of}
 use Rattle.states.specs.Runs.{way_of, advance}
 use Rattle.states.specs.inner.Choices.{Picked}
 use Rattle.states.proofs.laws.Keeps.{by_question, question_left, advance_ask}
-use Rattle.states.proofs.laws.Well.{well_state, well_left_lem, item_field}
+use Rattle.states.proofs.laws.Well.{well_left_lem, item_field}
+use Rattle.states.specs.inner.Well.{well_state}
 use Rattle.tables.specs.Tables.{slots_of, word_of}
 use Rattle.tables.specs.inner.Records.{way_at}
 use Rattle.slots.specs.Words.{question_words}

@@ -1,6 +1,6 @@
 -- A list under any ranking beside a list under the present one: where their tests are the same and their filters rank alike, all that is worked out is the same.
 --   RanksAlike ranks fs gs   the tests of fs are those of gs, and ranks says of fs what `above` says of gs
---   match_set_alike, states-alike, records-alike, outcome-alike   so match sets, states, records and what building comes to are the same
+--   match_set_alike, states_alike, records_alike, outcome_alike   so match sets, states, records and what building comes to are the same
 --   moved_alike              a list of group 0 under the old ranking, beside the same in another group
 --   present_alike            a list under the present ranking, beside itself
 use Rattle.std.specs.Prelude.{ℕ, ◌+◌, ◌≤◌, ◌<◌, ◌≡◌, Bool, true, ◌&&◌, eqb, length, get_or}

@@ -1,5 +1,5 @@
 -- Document 02, P7: what the code decides by single bytes is what the request says by longer frames.
---   possible_so, so-possible   a frame that goes on has field n exactly where the decision says that it could
+--   possible_so, so_possible   a frame that goes on has field n exactly where the decision says that it could
 --   seen_as                    what reading a field answers is what the request says
 --   seen_one                   and the request leaves one answer only
 --   seen_reading               without the difference of none and cut it is the reading of document 01

@@ -12,7 +12,7 @@ use Rattle.std.proofs.Math.ListN.{get_or-eq_default}
 use mir.Syntax.{w8}
 use Rattle.residue.specs.laws.Choice.{by_test, by_cond, both, first, second}
 use Rattle.sets.specs.Sets.{tally}
-use Rattle.sets.specs.laws.Members.{length_tally, get_d_tally}
+use Rattle.sets.specs.laws.Members.{length_tally, get_or_tally}
 use Rattle.fields.specs.Bytes.{byte, two, Bytes}
 use Rattle.fields.specs.Ethernet.{ip_start, ether_type, ethernet}
 use Rattle.fields.specs.Ipv4.{internet, version, header_length, total_length, protocol, transport_start, transport_end, transport}
@@ -35,7 +35,7 @@ module _ (f : List ℕ) (q : ℕ) where
 
   grown_byte : (i : ℕ) → i < length f + 88 → byte (grown f q) i ≡ grown_at f q i
   unfolding grown
-  grown_byte i l = get_d_tally (length f + 88) (grown_at f q) 0 i l
+  grown_byte i l = get_or_tally (length f + 88) (grown_at f q) 0 i l
 
   -- A test that byte i could pass, and that the model passes, is passed.
   met :

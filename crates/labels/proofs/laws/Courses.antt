@@ -27,7 +27,8 @@ use Rattle.states.specs.Runs.{way_of}
 use Rattle.states.specs.inner.Choices.{Leads, leads_none, leads_more, Chosen, OfFrame}
 use Rattle.states.proofs.laws.Well.{item_field}
 use Rattle.states.proofs.laws.Choices.{path_of, path_free}
-use Rattle.states.proofs.laws.Well.{well_state, well_left_lem, well_step, well_leads}
+use Rattle.states.proofs.laws.Well.{well_left_lem, well_step, well_leads}
+use Rattle.states.specs.inner.Well.{well_state}
 use Rattle.states.proofs.laws.Keeps.{by_question, left_asks}
 use Rattle.tables.specs.Tables.{word_of, next_at, holds_at, fails_at}
 use Rattle.tables.specs.inner.Records.{question_at, way_at}

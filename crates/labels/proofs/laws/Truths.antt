@@ -28,7 +28,8 @@ use Rattle.states.specs.Runs.{advance, run, asked_in}
 use Rattle.states.proofs.laws.Choices.{path_of, path_free}
 use Rattle.states.specs.inner.Choices.{Leads, leads_none, leads_more, Chosen, Picked, OfFrame, Free}
 use Rattle.states.proofs.laws.Keeps.{advance_ask, picks_run}
-use Rattle.states.proofs.laws.Well.{well_state, well_start}
+use Rattle.states.proofs.laws.Well.{well_start}
+use Rattle.states.specs.inner.Well.{well_state}
 use Rattle.states.proofs.laws.Truth.{InWidths}
 use Rattle.states.proofs.laws.Stays.{leads_sure, leads_out}
 use Rattle.states.proofs.laws.Paths.{member_sure, member_out, PathTruth, path_truth}

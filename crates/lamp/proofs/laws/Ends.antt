@@ -16,7 +16,8 @@ use Rattle.states.specs.inner.Choices.{Leads, leads_none, leads_more, Picked, Of
 use Rattle.states.specs.inner.Remaining.{remaining}
 use Rattle.states.proofs.laws.Keeps.{none_asked, by_question, advance_ask}
 use Rattle.states.proofs.laws.Measure.{none_remaining, step_falls}
-use Rattle.states.proofs.laws.Well.{well_state, well_step}
+use Rattle.states.proofs.laws.Well.{well_step}
+use Rattle.states.specs.inner.Well.{well_state}
 use Rattle.lamp.specs.Lamp.{is_as_is, some_held, lamp_ends, lamp_next, lamp_from}
 use Rattle.lamp.specs.declared.Lamp.{Lamp}
 use Rattle.lamp.specs.declared.Lamp.TheVariants.{Lit, Dark, Refused}

@@ -1,7 +1,7 @@
 -- What the lamp says is true: it is lit exactly where some filter matches, and it asks no more than it takes to know.
---   held_some, final-none      a held filter of a state that tells the truth means that some filter matches; a final state without one, that none does
+--   held_some, final_none      a held filter of a state that tells the truth means that some filter matches; a final state without one, that none does
 --   lamp_shows                 the whole answer for an accepted list: refused, or the end of the frame's path
---   shows_lit, shows-asked     what an answer that is no refusal says of the match set and of the questions
+--   shows_lit, shows_asked     what an answer that is no refusal says of the match set and of the questions
 use Rattle.std.specs.Prelude.{ℕ, ◌≤◌, ◌<◌, ◌≡◌, Bool, ◌||◌, List, eqb, length}
 use Rattle.std.proofs.Common.{zero-add, arith, sym, ◌∙◌, subst, ltb-true, ltb-false}
 use Rattle.std.proofs.Math.Path.{refl, ap}

@@ -1,7 +1,7 @@
 -- One turn of the lamp's walk from record n and the state s on, by what they are; and what the whole answers before it walks.
---   turn_refused, turn-lit, turn-dark, turn-spent   it ends there
---   turn_astray, turn-goes              it asks on: to no record, to the next
---   lamp_refused, lamp-long, lamp-misfit, lamp-walks   the list's refusals, 12, 13 for a bad number of states, else the walk
+--   turn_refused, turn_lit, turn_dark, turn_spent   it ends there
+--   turn_astray, turn_goes              it asks on: to no record, to the next
+--   lamp_refused, lamp_long, lamp_misfit, lamp_walks   the list's refusals, 12, 13 for a bad number of states, else the walk
 use Prim.Native.Nat.{ℕ, zero, suc, ◌+◌, ◌≤◌, ◌<◌}
 use Rattle.std.specs.Prelude.{◌≡◌, Bool, ◌||◌, List, eqb, ltb, length}
 use Rattle.std.proofs.Math.Path.{ap, ap₂}

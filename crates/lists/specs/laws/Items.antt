@@ -1,9 +1,9 @@
 -- A test and its words: each is read back from the other; and the kinds of tests.
 --   by_kind                    what holds of each of the four kinds holds of all between them
---   kind_some, kind-known      no test has kind 0, nor a kind behind the last
---   test_round, item-round     a test is read back from its words
+--   kind_some, kind_known      no test has kind 0, nor a kind behind the last
+--   test_round, item_round     a test is read back from its words
 --   words_round                four words without a fault are those of the test that they mean
---   items_turn, items-end      a filter's tests from one place on: one and the rest; none
+--   items_turn, items_end      a filter's tests from one place on: one and the rest; none
 use Rattle.std.specs.Prelude.{ℕ, zero, suc, ◌+◌, ◌-◌, ◌*◌, ◌≤◌, ◌<◌, ◌≡◌, refl, false, not, List, [], ◌∷◌, ltb, eqb, length, take, drop}
 use Rattle.std.proofs.Common.{arith, sym, ap, ◌∙◌, drop-drop, eqb-true}
 use Rattle.std.proofs.lemmas.Bool.{not-false}

@@ -1,6 +1,6 @@
 -- Ranks are an order: no filter ranks above itself, and above is transitive; and what a rank set says of a set of filters.
---   alone_above, alone-below    a filter of group 0 ranks above none and below none
---   get_d_rank_sets, rankSet-in   a filter's rank set
+--   alone_above, alone_below    a filter of group 0 ranks above none and below none
+--   get_or_rank_sets, rank_set_in   a filter's rank set
 --   rank_set_clear               none of a set of the list's filters ranks above a filter
 use Rattle.std.specs.Prelude.{ℕ, ◌≤◌, ◌<◌, ◌≡◌, Bool, ◌&&◌, ◌||◌, List, length, get_or}
 use Rattle.std.proofs.Common.{arith, ap, ◌∙◌}
@@ -11,7 +11,7 @@ use Rattle.std.proofs.Math.Dec.{ltb, eqb}
 use borrow.Author.Tests.{ltb-true, ltb-false, eqb-true, not-true, lt-ltb, eq-eqb}
 use Rattle.residue.specs.laws.Choice.{never, both, first, second, clash}
 use Rattle.sets.specs.Sets.{set_of, tally, some}
-use Rattle.sets.specs.laws.Members.{length_tally, get_d_tally, and_tally_zero}
+use Rattle.sets.specs.laws.Members.{length_tally, get_or_tally, and_tally_zero}
 use Rattle.lists.specs.Filters.{max_filters, Filter}
 use Rattle.lists.specs.Ranks.{group_of, level_of, outranks, above, rank_set, rank_sets}
 
@@ -87,9 +87,9 @@ pub length_rank_sets : (fs : List Filter) → length (rank_sets fs) ≡ max_filt
 unfolding rank_sets
 length_rank_sets fs = length_tally max_filters (rank_set fs)
 
-pub get_d_rank_sets : (fs : List Filter) (i : ℕ) → i < max_filters → get_or (rank_sets fs) i 0 ≡ rank_set fs i
+pub get_or_rank_sets : (fs : List Filter) (i : ℕ) → i < max_filters → get_or (rank_sets fs) i 0 ≡ rank_set fs i
 unfolding rank_sets
-get_d_rank_sets fs i l = get_d_tally max_filters (rank_set fs) 0 i l
+get_or_rank_sets fs i l = get_or_tally max_filters (rank_set fs) 0 i l
 
 pub rank_set_in : (fs : List Filter) (i : ℕ) → i < length fs → rank_set fs i ≡ set_of (tally (length fs) (λ j. above fs j i))
 unfolding rank_set

@@ -1,7 +1,7 @@
 -- A filter matches exactly where it fires and none that ranks above it does; and of the filters that fire, one that no other ranks above is found from each.
 --   Top fs r m i k     filter k fires, is i or ranks above it, and none below number m that fires ranks above k
 --   topmost            where i fires there is such a k, for each m
---   matches_fires, matches-top, top-matches   matching, taken apart and put together
+--   matches_fires, matches_top, top_matches   matching, taken apart and put together
 --   alone_matches      a filter of group 0 matches where it fires
 --   member_match       the match set by its members
 use Rattle.std.specs.Prelude.{ℕ, zero, suc, ◌<◌, ◌≡◌, refl, ◌⊎◌, Bool, true, ◌&&◌, List, ltb, length}

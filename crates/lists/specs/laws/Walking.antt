@@ -1,10 +1,10 @@
 -- A list read filter by filter, from the front.
---   listed_step, listed-end         the check from one place on: one filter, the end
---   filters_step, filters-none      the filters from one place on
---   accepted_head, accepted-rest, accepted-last   one filter off an accepted list
+--   listed_step, listed_end         the check from one place on: one filter, the end
+--   filters_step, filters_none      the filters from one place on
+--   accepted_head, accepted_rest, accepted_last   one filter off an accepted list
 --   At ws n i at      the words ws are an accepted list of n filters, and filter i begins at the place at, or the list ends there
 --   Here ws at        a filter begins there: its words are in the list, and its tests are few
---   at_start, at_next, at-end       a loop over an accepted list: its start, its turn, its end
+--   at_start, at_next, at_end       a loop over an accepted list: its start, its turn, its end
 --   at_here, at_rest                what the loop may read, and the filters that it still has before it
 use Rattle.std.specs.Prelude.{ℕ, zero, suc, ◌+◌, ◌-◌, ◌≤◌, ◌<◌, ◌≡◌, refl, Bool, true, false, cond, List, [], ◌∷◌, eqb, length, drop}
 use Rattle.std.proofs.Common.{not-suc-le-zero, arith, sym, ap, ap₂, ◌∙◌, length-drop, drop-drop, eqb-true}

@@ -1,5 +1,5 @@
 -- On the words of slots the machine of a list does what it does on states.
---   slots_same, slots-carried   the words of a good state compare, ask, step and read as the state does
+--   slots_same, slots_carried   the words of a good state compare, ask, step and read as the state does
 --   list_placed     so the builder, placing words, places the list's states with their records, or finds no slot where they are more than the slots
 use Rattle.std.specs.Prelude.{ℕ, ◌≤◌, ◌≡◌, true, List, length}
 use Rattle.std.proofs.Common.{arith, sym, ◌∙◌, subst}

@@ -3,7 +3,7 @@
 use Rattle.std.specs.Prelude.{◌≡◌, true, List, length}
 use Rattle.lists.specs.Filters.{Filter}
 use Rattle.states.specs.States.{State}
-use Rattle.states.proofs.laws.Well.{well_state}
+use Rattle.states.specs.inner.Well.{well_state}
 use Rattle.slots.specs.laws.Fitting.{fits_slot}
 
 pub record Good (fs : List Filter) (s : State) : Type 0 where

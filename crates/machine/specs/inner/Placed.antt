@@ -7,7 +7,7 @@ use Rattle.lists.specs.Ranks.{rank_sets}
 use Rattle.slots.specs.inner.Words.{written}
 use Rattle.automaton.specs.Machines.{record_of}
 use Rattle.automaton.specs.inner.Placing.{Placement, slotless, slotted, place_all}
-use Rattle.automaton.proofs.laws.MetPlaced.{holding}
+use Rattle.automaton.specs.inner.Placing.{holding}
 use Rattle.machine.specs.Box.{box_of, states_of}
 use Rattle.machine.specs.inner.Slots.{slots_in}
 

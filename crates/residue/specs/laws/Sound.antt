@@ -1,5 +1,5 @@
 -- A residue is sound: where the fact is so, the test holds exactly when what is left of it does. Over any width n: full is 2 ^ n - 1.
--- One law for each line of document 01, by the kind of the test; then residue-sound.
+-- One law for each line of document 01, by the kind of the test; then residue_sound.
 use Rattle.std.specs.Prelude.{ℕ, ◌+◌, ◌-◌, ◌^◌, ◌≤◌, ◌≡◌, Bool, true, false, cond, ltb}
 use Rattle.std.proofs.Math.Path.{refl, sym, ap}
 use Rattle.std.proofs.Common.{◌∙◌, arith}

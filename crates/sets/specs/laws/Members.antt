@@ -1,10 +1,10 @@
--- Laws of bit sets. None names a width; minus-sets takes the width of the word as an argument.
+-- Laws of bit sets. None names a width; minus_sets takes the width of the word as an argument.
 --   each f xs ys   the list of f x y, place by place
 --   none bs        no truth in the list
--- A set and its list: member-empty, member-setOf, setOf-bound, set_snoc.
--- Operations: member-or, member-one, and-sets, minus-sets; empty sets: zero-sets.
--- Tallies: length-tally, getD-tally, getD-tally-beyond, member-tally, tally-ext, each-tally, and-tally-zero.
--- Some: some-true, some-where, some-none, some-ext.
+-- A set and its list: member_empty, member_set_of, set_of_bound, set_snoc.
+-- Operations: member_or, member_one, and_sets, minus_sets; empty sets: zero_sets.
+-- Tallies: length_tally, get_or_tally, get_or_tally_beyond, member_tally, tally_ext, each_tally, and_tally_zero.
+-- Some: some_true, some_where, some_none, some_ext.
 -- Assumes nothing.
 use Rattle.std.specs.Prelude.{ℕ, zero, suc, ◌+◌, ◌-◌, ◌*◌, ◌/◌, ◌%◌, ◌^◌, ◌≤◌, ◌<◌, min, max, ◌≡◌, refl, Bool, true, false, not, ◌&&◌, ◌||◌, List, [], ◌∷◌, ◌++◌, eqb, ltb, length, get_or}
 use Rattle.std.proofs.Common.{sym, ap, ap₂, ◌∙◌, ⊎_elim, div-one, pow-suc, le_of_suc-le-suc, not-suc-le-zero, eq-or-lt_of_le, add-one, one-add, arith, lit<, length-append, eq-eqb, ne_eqb, ltb-true, ltb-false}
@@ -185,24 +185,24 @@ pub tally_more : {A : Type 0} (n : ℕ) (p : ℕ → A) → tally (n + 1) p ≡ 
 unfolding tally
 tally_more n p = rw add-one
 
-pub get_d_tally : {A : Type 0} (n : ℕ) (p : ℕ → A) (d : A) (i : ℕ) → i < n → get_or (tally n p) i d ≡ p i
+pub get_or_tally : {A : Type 0} (n : ℕ) (p : ℕ → A) (d : A) (i : ℕ) → i < n → get_or (tally n p) i d ≡ p i
 unfolding tally
-get_d_tally zero p d i l = absurd (not-suc-le-zero l)
-get_d_tally (suc n) p d i l =
+get_or_tally zero p d i l = absurd (not-suc-le-zero l)
+get_or_tally (suc n) p d i l =
     ⊎_elim
     (λ (e : i ≡ n). get_or_at (tally n p) (p n) [] d i (length_tally n p ∙ sym e) ∙ ap p (sym e))
-    (λ (m : i < n). get_or-append (tally n p) (p n ∷ []) d i (rw length_tally m) ∙ get_d_tally n p d i m)
+    (λ (m : i < n). get_or-append (tally n p) (p n ∷ []) d i (rw length_tally m) ∙ get_or_tally n p d i m)
     (eq-or-lt_of_le (le_of_suc-le-suc l))
 
-pub get_d_tally_beyond : {A : Type 0} (n : ℕ) (p : ℕ → A) (d : A) (i : ℕ) → n ≤ i → get_or (tally n p) i d ≡ d
-get_d_tally_beyond n p d i l = get_or-eq_default (tally n p) d (rw length_tally l)
+pub get_or_tally_beyond : {A : Type 0} (n : ℕ) (p : ℕ → A) (d : A) (i : ℕ) → n ≤ i → get_or (tally n p) i d ≡ d
+get_or_tally_beyond n p d i l = get_or-eq_default (tally n p) d (rw length_tally l)
 
 pub member_tally : (n : ℕ) (p : ℕ → Bool) (i : ℕ) → member i (set_of (tally n p)) ≡ (ltb i n && p i)
 member_tally n p i = member_set_of (tally n p) i ∙ go (ltb i n) refl
   where
     go : (b : Bool) → ltb i n ≡ b → get_or (tally n p) i false ≡ (b && p i)
-    go true e = get_d_tally n p false i (ltb-true i n e)
-    go false e = get_d_tally_beyond n p false i (ltb-false i n e)
+    go true e = get_or_tally n p false i (ltb-true i n e)
+    go false e = get_or_tally_beyond n p false i (ltb-false i n e)
 
 pub tally_ext : {A : Type 0} (n : ℕ) (p q : ℕ → A) → ((i : ℕ) → i < n → p i ≡ q i) → tally n p ≡ tally n q
 unfolding tally

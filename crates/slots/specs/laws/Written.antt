@@ -1,7 +1,7 @@
 -- What the code does with words is what the definitions of states say: on the words of a state s of the list fs that fits its slot, each function on words gives the words, or the set, of its counterpart.
 -- Encoding: see laws/Fitting and laws/Reading.
--- Sets: held-written, out_written, sure-written. Steps: closed-written, cut-written, by_written, step-written, next-written, start-written, start-accepted.
--- Questions: question-written, asks-written, length-question. Sameness: same-words-eq, same-words-refl, same-written.
+-- Sets: held_written, out_written, sure_written. Steps: closed_written, cut_written, by_written, step_written, next_written, start_written, start_accepted.
+-- Questions: question_written, asks_written, length_question. Sameness: same_words_eq, same_words_refl, same_written.
 use Prim.Native.Nat.{ℕ, zero, suc, ◌+◌, ◌*◌, ◌-◌, ◌^◌, ◌≤◌, ◌<◌}
 use Rattle.std.specs.Prelude.{◌≡◌, true, false, ◌&&◌, length, get_or, drop}
 use Rattle.std.proofs.Math.Path.{refl, ap, ap₂}
@@ -30,7 +30,7 @@ use Rattle.lists.specs.Refusals.{listed}
 use Rattle.lists.specs.declared.Listed.TheVariants.{Accepted}
 use Rattle.lists.specs.laws.Accepted.{accepted_count, accepted_well}
 use Rattle.lists.specs.laws.Items.{kind_some, item_round}
-use Rattle.lists.specs.laws.Ranking.{get_d_rank_sets, rank_set_in, rank_set_clear}
+use Rattle.lists.specs.laws.Ranking.{get_or_rank_sets, rank_set_in, rank_set_clear}
 use Rattle.states.specs.States.{Standing, out, left, State, standing, is_held, is_out, cut_standing, beaten, closed_from, closed, all_left, start, Question, nothing, ask, question_of, step_by, step_at, step, sure, sure_set, out_set}
 use Rattle.states.specs.Runs.{asks}
 use Rattle.states.specs.Same.{same_state}
@@ -89,7 +89,7 @@ module _ (fs : List Filter) (s : State) (l : length s ≡ length fs) (few : leng
   none_above i h =
       let p : ℕ → Bool = λ j. above fs j i in
       let q : ℕ → Bool = λ j. is_out (standing s j) in
-      ap₂ (λ (a b : ℕ). eqb (outside a b) 0) (get_d_rank_sets fs i (omega arith) ∙ rank_set_in fs i h) out_written ∙
+      ap₂ (λ (a b : ℕ). eqb (outside a b) 0) (get_or_rank_sets fs i (omega arith) ∙ rank_set_in fs i h) out_written ∙
       ap (λ (x : ℕ). eqb x 0) (outside_tally max_filters (length fs) p q few) ∙
       zero_tally (length fs) (λ j. p j && not (q j))
 
@@ -103,7 +103,7 @@ module _ (fs : List Filter) (s : State) (l : length s ≡ length fs) (few : leng
   not_beaten : (i : ℕ) → i < length fs → eqb (bit_and (get_or (rank_sets fs) i 0) (held_set (length fs) (written s))) 0 ≡ not (beaten fs s i)
   unfolding beaten
   not_beaten i h =
-      ap₂ (λ (a b : ℕ). eqb (bit_and a b) 0) (get_d_rank_sets fs i (omega arith)) held_written ∙ rank_set_clear fs (λ j. is_held (standing s j)) i h
+      ap₂ (λ (a b : ℕ). eqb (bit_and a b) 0) (get_or_rank_sets fs i (omega arith)) held_written ∙ rank_set_clear fs (λ j. is_held (standing s j)) i h
 
   closed_from_lem : (i : ℕ) (xs : State) → i + length xs ≡ length fs → fits_slot xs ≡ true → closed_in (length xs) (rank_sets fs) (held_set (length fs) (written s)) i (written xs) ≡ written (closed_from fs s i xs)
   unfolding closed_in written closed_from fits_slot

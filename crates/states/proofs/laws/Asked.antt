@@ -21,8 +21,10 @@ use Rattle.states.proofs.laws.Standings.{fact_by}
 use Rattle.states.proofs.laws.Choices.{leads_keeps}
 use Rattle.states.specs.inner.Choices.{left_in, Leads, Free}
 use Rattle.states.proofs.laws.Keeps.{question_left, follow_leads}
-use Rattle.states.proofs.laws.Every.{every_state, leaves, every_left_lem, every_step}
-use Rattle.states.proofs.laws.Well.{well_state, item_test, item_on, item_leaves, well_left_lem}
+use Rattle.states.proofs.laws.Every.{leaves, every_left_lem, every_step}
+use Rattle.states.specs.inner.Well.{every_state}
+use Rattle.states.proofs.laws.Well.{item_test, item_on, item_leaves, well_left_lem}
+use Rattle.states.specs.inner.Well.{well_state}
 
 unfoldable pub spent_item : Item → Item → Bool
 spent_item q t = cond (eqb t.field q.field) (spent q.test t.test) true

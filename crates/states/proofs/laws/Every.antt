@@ -2,7 +2,7 @@
 --   every_item p ts, every_standing p x, every_state p s   p is true of every test that remains
 --   leaves p n d                                        p is true of the test on field n that the residue d leaves, if it leaves one
 use Prim.Native.Nat.{ℕ, zero, suc, ◌+◌}
-use Rattle.std.specs.Prelude.{◌≡◌, Bool, cond, ◌&&◌, eqb}
+use Rattle.std.specs.Prelude.{◌≡◌, Bool, cond, eqb}
 use Rattle.std.proofs.Math.Path.{refl, subst}
 use Rattle.std.proofs.Common.{sym}
 use Rattle.std.proofs.Math.Bool.{true, false}
@@ -23,18 +23,7 @@ use Rattle.states.proofs.laws.Standings.{fact_by}
 use Rattle.states.specs.Same.{same_item}
 use Rattle.states.proofs.laws.Same.{same_item_eq}
 use Rattle.states.specs.inner.Choices.{among, left_in}
-
-unfoldable pub every_item : (Item → Bool) → List Item → Bool
-every_item p [] = true
-every_item p (t ∷ ts) = p t && every_item p ts
-
-unfoldable pub every_standing : (Item → Bool) → Standing → Bool
-every_standing p out = true
-every_standing p (left ts) = every_item p ts
-
-unfoldable pub every_state : (Item → Bool) → State → Bool
-every_state p [] = true
-every_state p (x ∷ s) = every_standing p x && every_state p s
+use Rattle.states.specs.inner.Well.{every_item, every_standing, every_state}
 
 abbrev pub leaves : (Item → Bool) → ℕ → Residue → Bool
 leaves p n d = every_left (λ (u : Test). p (record { field = n; test = u })) d

@@ -1,6 +1,6 @@
 -- The path of a frame and the states that outcomes lead to, both by document 01's questions, are paths by remaining tests: what each question keeps, they keep.
 --   by_question            a state is final or asks
---   question_left, left-asks   the question of a state is one of its remaining tests, and it has one where any remains
+--   question_left, left_asks   the question of a state is one of its remaining tests, and it has one where any remains
 --   picks_run              the frame's path by document 01's questions, up to the allowance or to a final state, is run, and its count asked_in
 --   follow_leads           outcomes lead on by a question each, as long as there is one
 use Prim.Native.Nat.{ℕ, zero, suc, ◌≤◌}

@@ -20,7 +20,8 @@ use Rattle.states.proofs.laws.Standings.{fact_by}
 use Rattle.states.specs.Same.{same_item}
 use Rattle.states.proofs.laws.Same.{same_item_eq}
 use Rattle.states.specs.inner.Choices.{among, left_in, Leads, leads_none, leads_more, Free}
-use Rattle.states.proofs.laws.Well.{well_state, item_test, well_start, well_left_lem, well_step}
+use Rattle.states.proofs.laws.Well.{item_test, well_start, well_left_lem, well_step}
+use Rattle.states.specs.inner.Well.{well_state}
 use Rattle.states.proofs.laws.Keeps.{none_asked, by_question, question_left, step_ask, follow_leads}
 
 -- ---- dividing and closing add no test

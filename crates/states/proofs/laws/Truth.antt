@@ -32,8 +32,10 @@ use Rattle.lists.specs.Ranks.{tests_of, above, all_hold, fires}
 use Rattle.states.specs.States.{Standing, out, left, State, standing, is_held, keep, join, cut, cut_standing, beaten, closed, all_left, start, step_by}
 use Rattle.states.specs.Runs.{way_of}
 use Rattle.states.proofs.laws.Standings.{fact_by, divided, step_closes, standing_divided, standing_closed, standing_all, standing_beyond, beaten_where}
-use Rattle.states.proofs.laws.Well.{well_state, item_on, fact_known, well_left_lem, well_step}
-use Rattle.states.proofs.laws.Every.{every_item, every_standing, every_standing_lem}
+use Rattle.states.proofs.laws.Well.{item_on, fact_known, well_left_lem, well_step}
+use Rattle.states.specs.inner.Well.{well_state}
+use Rattle.states.proofs.laws.Every.{every_standing_lem}
+use Rattle.states.specs.inner.Well.{every_item, every_standing}
 use Rattle.states.proofs.laws.Choices.{path_keeps}
 use Rattle.states.specs.inner.Choices.{Path}
 

@@ -21,10 +21,8 @@ use Rattle.states.proofs.laws.Standings.{fact_by}
 use Rattle.states.proofs.laws.Choices.{leads_keeps}
 use Rattle.states.specs.inner.Choices.{left_in, Leads, Free}
 use Rattle.states.proofs.laws.Keeps.{follow_leads}
-use Rattle.states.proofs.laws.Every.{every_item, every_standing, every_state, leaves, every_left_lem, every_closed, every_step}
-
-abbrev pub well_state : State → Bool
-well_state s = every_state well_item s
+use Rattle.states.specs.inner.Well.{every_item, every_standing, every_state, well_state}
+use Rattle.states.proofs.laws.Every.{leaves, every_left_lem, every_closed, every_step}
 
 -- ---- an item and its parts
 

@@ -3,7 +3,7 @@
 --   agree_next      a next number that is put in changes nothing of it
 --   agreeing_in     the first record that agrees lies among those looked at, or behind them all
 --   agreeing_over   none before it agrees
---   agreeing_here, agreeing-on   whether the next record agrees decides
+--   agreeing_here, agreeing_on   whether the next record agrees decides
 use Prim.Native.Nat.{ℕ, zero, suc, ◌+◌, ◌≤◌, ◌<◌}
 use native.Mathlib.Omega.{arith}
 use Rattle.std.specs.Prelude.{◌≡◌, Bool, List, get_or, set}

@@ -1,6 +1,6 @@
 -- A table's records where some of its words change.
 --   record_kept                          records before a place see only the words up to it
---   next_same, next-other, next-behind   a next number that is put in changes its record alone
+--   next_same, next_other, next_behind   a next number that is put in changes its record alone
 use Prim.Native.Nat.{ℕ, ◌+◌, ◌*◌, ◌-◌, ◌≤◌, ◌<◌}
 use native.Mathlib.Omega.{arith}
 use Rattle.std.specs.Prelude.{◌≡◌, Bool, drop, set}

@@ -2,7 +2,7 @@
 --   next_within             the next numbers stand within a record
 --   record_long             a record is as long as its name says
 --   set_read                a set is read off its own words alone
---   sure_in, out-in         the sets that its words say are those it is made of
+--   sure_in, out_in         the sets that its words say are those it is made of
 --   fresh_linked            a fresh record that got its three next numbers
 --   Spells t n q next s o   record n of the table t has the question's words q, the next numbers next, the sets s and o
 --   record_spells           so it does where its words are made of them

@@ -1,7 +1,7 @@
 -- What stays of a run of words where another part of it changes.
---   part_within, part-kept            a part within the first words sees those alone
+--   part_within, part_kept            a part within the first words sees those alone
 --   later, earlier                    what agrees from a place on, or up to a place
---   put_before, put-there, put-behind words put into a lent tail: those before and behind stay
+--   put_before, put_there, put_behind words put into a lent tail: those before and behind stay
 -- Assumes nothing.
 use Rattle.std.specs.Prelude.{ℕ, zero, suc, ◌+◌, ◌-◌, ◌≤◌, ◌≡◌, refl, List, [], ◌∷◌, ◌++◌, length, take, drop}
 use Rattle.std.proofs.Common.{sym, ap, ◌∙◌, subst, append_assoc, zero-add, arith, length-drop, take-append-drop, take-take, take_at, drop_at, drop-drop, length-take-le}
