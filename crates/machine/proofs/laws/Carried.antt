@@ -1,9 +1,9 @@
 -- On the words of slots the machine of a list does what it does on states.
 --   slots_same, slots_carried   the words of a good state compare, ask, step and read as the state does
 --   list_placed     so the builder, placing words, places the list's states with their records, or finds no slot where they are more than the slots
-use Rattle.std.specs.Prelude.{ℕ, ◌≤◌, ◌≡◌, true, List, length}
+use Rattle.std.specs.Prelude.{ℕ, ◌≡◌, true, List, length}
 use Rattle.std.proofs.Common.{arith, sym, ◌∙◌, subst}
-use Rattle.lists.specs.Filters.{Filter, filters_of, max_filters, tests_in}
+use Rattle.lists.specs.Filters.{Filter, filters_of, tests_in}
 use Rattle.lists.specs.inner.Well.{well_filters}
 use Rattle.lists.specs.Refusals.{listed}
 use Rattle.lists.specs.laws.Accepted.{accepted_count, accepted_well}
@@ -17,10 +17,10 @@ use Rattle.automaton.proofs.laws.Carrying.{Carried, SameCarried, placed_carried}
 use Rattle.machine.specs.Box.{box_of, states_of}
 use Rattle.machine.specs.inner.Slots.{slots_in}
 use Rattle.machine.specs.inner.Good.{Good}
-use Rattle.machine.specs.inner.Placed.{PlacesStates}
+use Rattle.machine.specs.inner.Placed.{FitsSlots, PlacesStates}
 use Rattle.machine.proofs.laws.Lawful.{good_start, box_lawful, enough}
 
-module _ (fs : List Filter) (few : length fs ≤ max_filters) where
+module _ (fs : List Filter) (few : FitsSlots fs) where
   pub slots_same : SameCarried (box_of fs) (slots_in (length fs) (rank_sets fs)) (Good fs) written
   slots_same = record { same_carried = λ a b g h. same_written a b (g.each ∙ sym h.each) g.fits h.fits }
 

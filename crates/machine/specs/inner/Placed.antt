@@ -1,8 +1,9 @@
 -- What placing a list's states comes to.
+--   FitsSlots      a list has no more filters than a slot has room for
 --   whole          in so many slots: their words and records, or a state without one
 --   PlacesStates   from these words on, the builder of n filters places the list's states, or finds no slot
-use Rattle.std.specs.Prelude.{ℕ, ◌≡◌, cond, List, map, leb, length}
-use Rattle.lists.specs.Filters.{Filter}
+use Rattle.std.specs.Prelude.{ℕ, ◌≤◌, ◌≡◌, cond, List, map, leb, length}
+use Rattle.lists.specs.Filters.{Filter, max_filters}
 use Rattle.lists.specs.Ranks.{rank_sets}
 use Rattle.slots.specs.inner.Words.{written}
 use Rattle.automaton.specs.Machines.{record_of}
@@ -10,6 +11,10 @@ use Rattle.automaton.specs.inner.Placing.{Placement, slotless, slotted, place_al
 use Rattle.automaton.specs.inner.Placing.{holding}
 use Rattle.machine.specs.Box.{box_of, states_of}
 use Rattle.machine.specs.inner.Slots.{slots_in}
+
+-- A slot has room for so many filters.
+abbrev pub FitsSlots : List Filter → Type 0
+FitsSlots fs = length fs ≤ max_filters
 
 -- What placing a list's states comes to in so many slots: their words and records, or a state without one.
 abbrev pub whole : (n : ℕ) (ranks : List ℕ) → List Filter → ℕ → Placement (slots_in n ranks)
