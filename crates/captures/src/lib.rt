@@ -229,7 +229,8 @@ fn record(list: &[u32], n: usize, big: bool, number: u64, s: &[u8], counts: &mut
     }
     let captured = word_at(s, CAPTURED_AT, big);
     let original = word_at(s, ORIGINAL_AT, big);
-    if captured < original {
+    let is_short = captured < original;
+    if is_short {
         return pass(big, captured, number, n + SHORT, counts);
     }
     if LONGEST < captured {
