@@ -174,7 +174,11 @@ fn internet_cases(rt: &impl Print) -> io::Result<()> {
         69,
         21,
         2,
-    )?;
+    )
+}
+
+// Headers longer than the least.
+fn header_length_cases(rt: &impl Print) -> io::Result<()> {
     case(
         rt,
         b"total length below header length 24",
@@ -335,6 +339,7 @@ fn one_cases(rt: &impl Print) -> io::Result<()> {
 fn main(rt: HostRuntime) -> io::Result<()> {
     ethernet_cases(&rt)?;
     internet_cases(&rt)?;
+    header_length_cases(&rt)?;
     udp_cases(&rt)?;
     tcp_cases(&rt)?;
     icmp_cases(&rt)?;

@@ -13,9 +13,9 @@ use Rattle.captures.proofs.count_set.Goals as goal
 turned : (ts : List ℕ) (s i : ℕ) (b : Bool) (us vs : List ℕ) → us ≡ count_set i s ts → b ≡ member i s → vs ≡ cond b (count_up i us) us → vs ≡ count_set (i + 1) s ts
 turned ts s i b us vs e f h = h ∙ ap₂ (λ (x : Bool) (l : List ℕ). cond x (count_up i l) l) f e ∙ sym (set_turn s ts i)
 
-long-if : (b : Bool) (i : ℕ) (us : List ℕ) → length (cond b (count_up i us) us) ≡ length us
-long-if true i us = up_long i us
-long-if false i us = refl
+long_if : (b : Bool) (i : ℕ) (us : List ℕ) → length (cond b (count_up i us) us) ≡ length us
+long_if true i us = up_long i us
+long_if false i us = refl
 
 pub loop-i-init : goal.loop-i-init
 unfolding count_set
@@ -28,7 +28,7 @@ pub loop-i-preserved : goal.loop-i-preserved
 loop-i-preserved c = (
   omega arith,
   turned c.args.counts.now c.args.set c.loop-i.i _ c.loop-i.counts _ c.loop-i.invariant.1 c.has.ensures c.count_if.ensures,
-  ap length c.count_if.ensures ∙ long-if c.has.result c.loop-i.i c.loop-i.counts ∙ c.loop-i.invariant.2,
+  ap length c.count_if.ensures ∙ long_if c.has.result c.loop-i.i c.loop-i.counts ∙ c.loop-i.invariant.2,
 )
 
 pub returns : goal.returns

@@ -16,12 +16,12 @@ use Rattle.lamp.proofs.lamp_from.Goals as goal
 use Rattle.lamp.proofs.lamp_from.Goals.{Else-ends}
 
 -- The walk asks on: there is a question, and its record asks it.
-asks-on :
+asks_on :
     (c : Else-ends) →
     let q = c.question_of-q.result in
     Asking (filters_of c.args.list.now) c.args.table.now c.args.states (reading_at c.args.present c.args.values.now) c.loop-q.state c.loop-q.asked c.loop-q.at c.args.n
     (q.kind ∷ q.field ∷ q.mask ∷ q.value ∷ [])
-asks-on c =
+asks_on c =
     let count = accepted_count _ _ _ c.requires.accepted.1 in
     asking _ _ _ _ c.loop-q.invariant.0 _ count.0 count.2 _ c.question_of-q.ensures c.record_asks-as_is.ensures (ap (λ (o : ℕ). not (eqb o 0)) c.held_set-held.ensures) refl
     (sym c.ends.ensures ∙ c.if-ends.false)
@@ -53,7 +53,7 @@ returns-then-ends c = let count = accepted_count _ _ _ c.requires.accepted.1 in
     (sym c.ends.ensures ∙ c.if-ends.true)
 
 pub returns-then-states-at : goal.returns-then-states-at
-returns-then-states-at c = gone_astray (asks-on (goal.at.returns-then-states-at c).Else-ends) _ c.way_of-way.ensures _ c.way_at-at.ensures c.if-states-at.true
+returns-then-states-at c = gone_astray (asks_on (goal.at.returns-then-states-at c).Else-ends) _ c.way_of-way.ensures _ c.way_at-at.ensures c.if-states-at.true
 
 pub step_by-requires : goal.step_by-requires
 step_by-requires c = let small = (accepted_count _ _ _ c.requires.accepted.1).2 in
@@ -66,14 +66,14 @@ step_by-requires c = let small = (accepted_count _ _ _ c.requires.accepted.1).2 
 
 pub overflow_add-asked : goal.overflow_add-asked
 overflow_add-asked c = let tests = accepted_count _ _ _ c.requires.accepted.1 in
-    omega (arith, fewer_left (asks-on (goal.at.overflow_add-asked c).Else-ends), tests.1, tests.2, tests.3)
+    omega (arith, fewer_left (asks_on (goal.at.overflow_add-asked c).Else-ends), tests.1, tests.2, tests.3)
 
 pub loop-q-smaller : goal.loop-q-smaller
-loop-q-smaller c = omega (arith, fewer_left (asks-on (goal.at.loop-q-smaller c).Else-ends))
+loop-q-smaller c = omega (arith, fewer_left (asks_on (goal.at.loop-q-smaller c).Else-ends))
 
 pub loop-q-preserved : goal.loop-q-preserved
 loop-q-preserved c = (
-  gone_on (asks-on (goal.at.loop-q-preserved c).Else-ends) _ c.way_of-way.ensures _ c.way_at-at.ensures _ c.requires.ranked c.if-states-at.false _ (c.copy_into.ensures ∙ copied _ _ (omega arith) ∙ c.step_by.ensures),
+  gone_on (asks_on (goal.at.loop-q-preserved c).Else-ends) _ c.way_of-way.ensures _ c.way_at-at.ensures _ c.requires.ranked c.if-states-at.false _ (c.copy_into.ensures ∙ copied _ _ (omega arith) ∙ c.step_by.ensures),
   omega arith,
   omega arith,
 )

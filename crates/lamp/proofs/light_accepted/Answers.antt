@@ -27,16 +27,16 @@ front : (n : ℕ) → n ≤ max_filters → length (take (filter_slot * n) slot)
 front n l = length-take-le (filter_slot * n) slot (omega arith)
 
 -- The number of a refusal before the walk, and what is known where there is none.
-fault-is :
+fault_is :
     (f t : List ℕ) (m : ℕ) {n : ℕ} {b : Bool} → n ≡ cond (ltb max_frame (length f)) 12 (cond b 13 0) → b ≡ (eqb m 0 || ltb (slots_of t) m) → n ≡ fault_in f t m
-fault-is f t m told misfit = told ∙ ap (λ (x : Bool). cond (ltb max_frame (length f)) 12 (cond x 13 0)) misfit
+fault_is f t m told misfit = told ∙ ap (λ (x : Bool). cond (ltb max_frame (length f)) 12 (cond x 13 0)) misfit
 
 fine : (c : Else-fault-ne0) → (length c.args.frame.now ≤ max_frame) × ((eqb c.args.states 0 || ltb (slots_of c.args.table.now) c.args.states) ≡ false)
-fine c = faultless _ _ _ _ (fault-is c.args.frame.now c.args.table.now c.args.states c.fault_of-fault.ensures c.misfits.ensures) c.if-fault-ne0.false
+fine c = faultless _ _ _ _ (fault_is c.args.frame.now c.args.table.now c.args.states c.fault_of-fault.ensures c.misfits.ensures) c.if-fault-ne0.false
 
 pub returns-then-fault-ne0 : goal.returns-then-fault-ne0
 returns-then-fault-ne0 c =
-    faulted c.args.frame.now c.args.table.now c.args.states _ _ _ _ c.requires.1 _ (fault-is _ _ _ c.fault_of-fault.ensures c.misfits.ensures) c.if-fault-ne0.true
+    faulted c.args.frame.now c.args.table.now c.args.states _ _ _ _ c.requires.1 _ (fault_is _ _ _ c.fault_of-fault.ensures c.misfits.ensures) c.if-fault-ne0.true
 
 pub overflow_mul-width : goal.overflow_mul-width
 overflow_mul-width c = omega (arith, (accepted_count _ _ _ c.requires.1).2)

@@ -5,29 +5,25 @@ use Rattle.lists.specs.Filters.{max_filters}
 use Prim.Native.Nat.{ℕ, ◌-◌, ◌<◌}
 use mathlib.Core.Path.{◌≡◌, refl, sym, ap, ◌∙◌}
 use native.Mathlib.Omega.{arith}
-use lib.ListN.{drop, drop_of_length-le}
+use mathlib.Core.List.{List}
+use lib.ListN.{length, take, drop, drop_of_length-le}
 use Rattle.lists.specs.Refusals.{filter_fault, listed_from, listed}
 use Rattle.lists.specs.laws.Faults.{no_fault}
 use Rattle.lists.specs.laws.Walking.{listed_end, Here, sound_here}
 use Rattle.lists.specs.declared.Listed.TheVariants.{Refused}
 use Rattle.lists.proofs.Turns.{list_turn, list_found, list_over, rest_is}
 use Rattle.lists.proofs.check.Goals as goal
-use Rattle.lists.proofs.check.Goals.{After-filter_fault-fault, Else-fault-ne0}
+use Rattle.lists.proofs.check.Goals.{Else-fault-ne0}
 
 -- The filter's fault, as a fault of the rest of the list.
-fault-here : (c : After-filter_fault-fault) →
-    c.filter_fault-fault.result ≡ filter_fault (drop c.loop-at.at c.args.list.now)
-fault-here c = c.filter_fault-fault.ensures ∙ ap filter_fault (rest_is c.loop-at.at c.args.list.now)
-
-fault-here-at-Else-fault-ne0 : (c : Else-fault-ne0) →
-    c.filter_fault-fault.result ≡ filter_fault (drop c.loop-at.at c.args.list.now)
-fault-here-at-Else-fault-ne0 c = c.filter_fault-fault.ensures ∙ ap filter_fault (rest_is c.loop-at.at c.args.list.now)
+fault_here : (at : ℕ) (l : List ℕ) {n : ℕ} → n ≡ filter_fault (take (length l - at) (drop at l)) → n ≡ filter_fault (drop at l)
+fault_here at l e = e ∙ ap filter_fault (rest_is at l)
 
 passed_here : (c : Else-fault-ne0) →
     Here c.args.list.now c.loop-at.at
 passed_here c =
     sound_here c.args.list.now c.loop-at.at
-    (no_fault _ (sym (fault-here-at-Else-fault-ne0 c) ∙ c.if-fault-ne0.false))
+    (no_fault _ (sym (fault_here c.loop-at.at c.args.list.now c.filter_fault-fault.ensures) ∙ c.if-fault-ne0.false))
 
 pub loop-at-init : goal.loop-at-init
 unfolding listed
@@ -37,8 +33,8 @@ pub returns-then-filters-eq-FILTERS : goal.returns-then-filters-eq-FILTERS
 returns-then-filters-eq-FILTERS c = sym (list_over c.args.list.now c.loop-at.at c.loop-at.filters c.loop-at.tests c.if-filters-eq-FILTERS.true c.loop-at-test.true) ∙ c.loop-at.invariant.3
 
 pub returns-then-fault-ne0 : goal.returns-then-fault-ne0
-returns-then-fault-ne0 c = ap (λ (x : ℕ). Refused x c.loop-at.filters) (fault-here (goal.at.returns-then-fault-ne0 c).After-filter_fault-fault) ∙
-    sym (list_found c.args.list.now c.loop-at.at c.loop-at.filters c.loop-at.tests (omega (arith, c.loop-at.invariant.1, c.if-filters-eq-FILTERS.false)) c.loop-at-test.true (λ (e : filter_fault (drop c.loop-at.at c.args.list.now) ≡ 0). c.if-fault-ne0.true (fault-here (goal.at.returns-then-fault-ne0 c).After-filter_fault-fault ∙ e))) ∙
+returns-then-fault-ne0 c = ap (λ (x : ℕ). Refused x c.loop-at.filters) (fault_here c.loop-at.at c.args.list.now c.filter_fault-fault.ensures) ∙
+    sym (list_found c.args.list.now c.loop-at.at c.loop-at.filters c.loop-at.tests (omega (arith, c.loop-at.invariant.1, c.if-filters-eq-FILTERS.false)) c.loop-at-test.true (λ (e : filter_fault (drop c.loop-at.at c.args.list.now) ≡ 0). c.if-fault-ne0.true (fault_here c.loop-at.at c.args.list.now c.filter_fault-fault.ensures ∙ e))) ∙
     c.loop-at.invariant.3
 
 pub overflow_add-at : goal.overflow_add-at
@@ -60,7 +56,7 @@ loop-at-preserved c = let q = passed_here (goal.at.loop-at-preserved c).Else-fau
       q.whole,
       omega arith,
       omega (arith, c.loop-at.invariant.2, q.count),
-      sym (list_turn c.args.list.now c.loop-at.at c.loop-at.filters c.loop-at.tests h c.loop-at-test.true (sym (fault-here (goal.at.loop-at-preserved c).After-filter_fault-fault) ∙ c.if-fault-ne0.false)) ∙ c.loop-at.invariant.3,
+      sym (list_turn c.args.list.now c.loop-at.at c.loop-at.filters c.loop-at.tests h c.loop-at-test.true (sym (fault_here c.loop-at.at c.args.list.now c.filter_fault-fault.ensures) ∙ c.if-fault-ne0.false)) ∙ c.loop-at.invariant.3,
     )
 
 pub returns : goal.returns

@@ -13,9 +13,9 @@ use Rattle.lists.proofs.Turns.{rest_is}
 use Rattle.lists.proofs.filter_fault.Goals as goal
 
 module _ (ws : List ℕ) where
-  head-short : length ws < head_words → 2 ≡ filter_fault ws
+  head_short : length ws < head_words → 2 ≡ filter_fault ws
   unfolding filter_fault
-  head-short a = rw (lt-ltb _ _ a)
+  head_short a = rw (lt-ltb _ _ a)
 
   module _ (a : head_words ≤ length ws) where
     rank-high : (ltb max_rank (group_word ws) || ltb max_rank (level_word ws)) ≡ true → 3 ≡ filter_fault ws
@@ -37,7 +37,7 @@ module _ (ws : List ℕ) where
         tests-there d = rw (le-ltb _ _ a, b, le-ltb _ _ c, le-ltb _ _ d)
 
 pub returns-then-words-lt-HEAD_WORDS : goal.returns-then-words-lt-HEAD_WORDS
-returns-then-words-lt-HEAD_WORDS c = head-short _ c.if-words-lt-HEAD_WORDS.true
+returns-then-words-lt-HEAD_WORDS c = head_short _ c.if-words-lt-HEAD_WORDS.true
 
 pub returns-then-words : goal.returns-then-words
 returns-then-words c = rank-high _ c.if-words-lt-HEAD_WORDS.false c.if-words.true

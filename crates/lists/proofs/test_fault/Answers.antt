@@ -12,9 +12,9 @@ use Rattle.lists.specs.Refusals.{masked, test_fault}
 use Rattle.lists.proofs.test_fault.Goals as goal
 
 module _ (k f m v : ℕ) where
-  kind-wrong : (eqb k 0 || ltb kind_at_least k) ≡ true → 5 ≡ test_fault k f m v
+  kind_wrong : (eqb k 0 || ltb kind_at_least k) ≡ true → 5 ≡ test_fault k f m v
   unfolding test_fault
-  kind-wrong a = rw a
+  kind_wrong a = rw a
 
   module _ (a : (eqb k 0 || ltb kind_at_least k) ≡ false) where
     field-high : field_count ≤ f → 6 ≡ test_fault k f m v
@@ -44,7 +44,7 @@ module _ (k f m v : ℕ) where
           inside e = rw (a, lt-leb _ _ b, c, ← is, d, e)
 
 pub returns-then-kind : goal.returns-then-kind
-returns-then-kind c = kind-wrong _ _ _ _ c.if-kind.true
+returns-then-kind c = kind_wrong _ _ _ _ c.if-kind.true
 
 pub returns-then-field-ge-FIELDS : goal.returns-then-field-ge-FIELDS
 returns-then-field-ge-FIELDS c = field-high _ _ _ _ c.if-kind.false c.if-field-ge-FIELDS.true

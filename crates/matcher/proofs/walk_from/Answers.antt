@@ -1,6 +1,6 @@
 -- `matcher::walk_from` meets its contract. The loop's invariant: the walk from the record reached, with the questions left, answers the whole walk.
 -- A record that ends the walk answers for it; a way goes on to the next record with one question fewer, a chain with one fewer for each link. Assumes nothing.
-use Prim.Native.Nat.{ℕ, ◌*◌, ◌%◌, ◌^◌}
+use Prim.Native.Nat.{ℕ, ◌*◌, ◌%◌, ◌^◌, ◌<◌}
 use native.Mathlib.Nat.{sub_self, one-mul}
 use native.Mathlib.Omega.{arith}
 use mathlib.Core.Path.{◌≡◌, sym, ◌∙◌}
@@ -17,6 +17,7 @@ use Rattle.fields.specs.inner.Parts.{lacking}
 use Rattle.fields.specs.declared.Seen.{Seen}
 use Rattle.fields.proofs.laws.CutSet.{seen_at_reading, seen_at_cut}
 use Rattle.matcher.specs.Walk.{next_of, cut_of}
+use Rattle.fields.specs.Widths.{field_count}
 use Rattle.matcher.specs.inner.Records.{meets}
 use Rattle.matcher.proofs.Linked.{walked_on}
 use Rattle.matcher.proofs.Meeting.{unmet, meets_more}
@@ -28,62 +29,47 @@ use Rattle.matcher.proofs.walk_from.Goals.{After-holds_word, Else-ends, Else-hol
 abbrev seen_by : ℕ → List ℕ → List ℕ → ℕ → Seen
 seen_by present frame values = seen_at present (lacking frame present) values
 
--- The record of a turn may be asked: known when it does not end the walk, on the absent way, and where the test has been worked out.
+-- A record that does not end the walk may be asked.
 asks :
     (c : Else-ends) →
     Asking c.args.table.now c.args.states (seen_by c.args.present c.args.frame.now c.args.values.now) c.args.allowance c.loop-at.at.left (meets (lacking c.args.frame.now c.args.present) c.loop-at.met) c.loop-at.at.s
 asks c = asking c.loop-at.invariant (sym c.ends.ensures ∙ c.if-ends.false)
 
-asks-absent :
-    (c : In_default) →
-    Asking c.args.table.now c.args.states (seen_by c.args.present c.args.frame.now c.args.values.now) c.args.allowance c.loop-at.at.left (meets (lacking c.args.frame.now c.args.present) c.loop-at.met) c.loop-at.at.s
-asks-absent c = asking c.loop-at.invariant (sym c.ends.ensures ∙ c.if-ends.false)
-
-asks-value :
-    (c : After-holds_word) →
-    Asking c.args.table.now c.args.states (seen_by c.args.present c.args.frame.now c.args.values.now) c.args.allowance c.loop-at.at.left (meets (lacking c.args.frame.now c.args.present) c.loop-at.met) c.loop-at.at.s
-asks-value c = asking c.loop-at.invariant (sym c.ends.ensures ∙ c.if-ends.false)
-
 -- The absent way: where it leads.
-absent-reads : (c : In_default) → reading_of ((seen_by c.args.present c.args.frame.now c.args.values.now) (read c.args.table.now c.loop-at.at.s 1)) ≡ Absent
-absent-reads c = seen_at_reading _ _ _ _ ∙ sym c.reading_at.ensures ∙ c.in_default.is
+absent_reads : (c : In_default) → reading_of ((seen_by c.args.present c.args.frame.now c.args.values.now) (read c.args.table.now c.loop-at.at.s 1)) ≡ Absent
+absent_reads c = seen_at_reading _ _ _ _ ∙ sym c.reading_at.ensures ∙ c.in_default.is
 
-absent-way : (c : In_default) → next_of c.args.table.now (seen_by c.args.present c.args.frame.now c.args.values.now) c.loop-at.at.s ≡ read c.args.table.now c.loop-at.at.s 6
-absent-way c = way_absent _ _ _ (absent-reads c)
+absent_way : (c : In_default) → next_of c.args.table.now (seen_by c.args.present c.args.frame.now c.args.values.now) c.loop-at.at.s ≡ read c.args.table.now c.loop-at.at.s 6
+absent_way c = way_absent _ _ _ (absent_reads c)
 
 -- The field is cut there exactly where its bit is in the set.
-absent-mark :
+absent_mark :
     (c : In_default) →
+    read c.args.table.now c.loop-at.at.s 1 < field_count →
     (meets (lacking c.args.frame.now c.args.present) c.loop-at.met || cut_of c.args.table.now (seen_by c.args.present c.args.frame.now c.args.values.now) c.loop-at.at.s) ≡
     meets (lacking c.args.frame.now c.args.present) (bit_or c.loop-at.met ((1 * 2 ^ read c.args.table.now c.loop-at.at.s 1) % 2 ^ 64))
-absent-mark c =
+absent_mark c known =
     let cut =
     sym (mark_absent c.args.table.now (seen_by c.args.present c.args.frame.now c.args.values.now) c.loop-at.at.s) ∙
-    seen_at_cut _ _ _ _ (asks-absent c).known (sym c.reading_at.ensures ∙ c.in_default.is) in
+    seen_at_cut _ _ _ _ known (sym c.reading_at.ensures ∙ c.in_default.is) in
     let n = read c.args.table.now c.loop-at.at.s 1 in
-    let moved : (1 * 2 ^ n) % 2 ^ 64 ≡ 2 ^ n = shl_exact {a = 1} 1 n 64 (lit< tt) (omega (arith, (asks-absent c).known)) ∙ one-mul (2 ^ n) in
+    let moved : (1 * 2 ^ n) % 2 ^ 64 ≡ 2 ^ n = shl_exact {a = 1} 1 n 64 (lit< tt) (omega (arith, known)) ∙ one-mul (2 ^ n) in
     rw (cut, moved) (sym (meets_more n (lacking c.args.frame.now c.args.present) c.loop-at.met))
 
 -- Where the test has been worked out: the number that was read.
 reads : (c : After-holds_word) → reading_of ((seen_by c.args.present c.args.frame.now c.args.values.now) (read c.args.table.now c.loop-at.at.s 1)) ≡ Value c.in-Value.x
 reads c = seen_at_reading _ _ _ _ ∙ sym c.reading_at.ensures ∙ c.in-Value.is
 
-reads-holds : (c : Then-holds_word) → reading_of ((seen_by c.args.present c.args.frame.now c.args.values.now) (read c.args.table.now c.loop-at.at.s 1)) ≡ Value c.in-Value.x
-reads-holds c = seen_at_reading _ _ _ _ ∙ sym c.reading_at.ensures ∙ c.in-Value.is
-
-reads-fails : (c : Else-holds_word) → reading_of ((seen_by c.args.present c.args.frame.now c.args.values.now) (read c.args.table.now c.loop-at.at.s 1)) ≡ Value c.in-Value.x
-reads-fails c = seen_at_reading _ _ _ _ ∙ sym c.reading_at.ensures ∙ c.in-Value.is
-
-value-mark :
+value_mark :
     (c : After-holds_word) →
     (meets (lacking c.args.frame.now c.args.present) c.loop-at.met || cut_of c.args.table.now (seen_by c.args.present c.args.frame.now c.args.values.now) c.loop-at.at.s) ≡ meets (lacking c.args.frame.now c.args.present) c.loop-at.met
-value-mark c = mark_stays _ _ _ _ (reads c) _
+value_mark c = mark_stays _ _ _ _ (reads c) _
 
-holds-way : (c : Then-holds_word) → next_of c.args.table.now (seen_by c.args.present c.args.frame.now c.args.values.now) c.loop-at.at.s ≡ read c.args.table.now c.loop-at.at.s 4
-holds-way c = way_holds _ _ _ _ (reads-holds c) (sym c.holds_word.ensures ∙ c.if-holds_word.true)
+holds_way : (c : Then-holds_word) → reading_of ((seen_by c.args.present c.args.frame.now c.args.values.now) (read c.args.table.now c.loop-at.at.s 1)) ≡ Value c.in-Value.x → next_of c.args.table.now (seen_by c.args.present c.args.frame.now c.args.values.now) c.loop-at.at.s ≡ read c.args.table.now c.loop-at.at.s 4
+holds_way c r = way_holds _ _ _ _ r (sym c.holds_word.ensures ∙ c.if-holds_word.true)
 
-fails-way : (c : Else-holds_word) → next_of c.args.table.now (seen_by c.args.present c.args.frame.now c.args.values.now) c.loop-at.at.s ≡ read c.args.table.now c.loop-at.at.s 5
-fails-way c = way_fails _ _ _ _ (reads-fails c) (sym c.holds_word.ensures ∙ c.if-holds_word.false)
+fails_way : (c : Else-holds_word) → reading_of ((seen_by c.args.present c.args.frame.now c.args.values.now) (read c.args.table.now c.loop-at.at.s 1)) ≡ Value c.in-Value.x → next_of c.args.table.now (seen_by c.args.present c.args.frame.now c.args.values.now) c.loop-at.at.s ≡ read c.args.table.now c.loop-at.at.s 5
+fails_way c r = way_fails _ _ _ _ r (sym c.holds_word.ensures ∙ c.if-holds_word.false)
 
 pub loop-at-init : goal.loop-at-init
 loop-at-init c = let none_asked = sub_self c.args.allowance in
@@ -101,39 +87,40 @@ pub overflow_sub-at : goal.overflow_sub-at
 overflow_sub-at c = omega (arith, asks (goal.at.overflow_sub-at c).Else-ends)
 
 pub overflow_cast-met : goal.overflow_cast-met
-overflow_cast-met c = omega (arith, (asks-absent (goal.at.overflow_cast-met c).In_default).known)
+overflow_cast-met c = omega (arith, (asks (goal.at.overflow_cast-met c).Else-ends).known)
 
 pub overflow_shl-met : goal.overflow_shl-met
-overflow_shl-met c = omega (arith, (asks-absent (goal.at.overflow_shl-met c).In_default).known)
+overflow_shl-met c = omega (arith, (asks (goal.at.overflow_shl-met c).Else-ends).known)
 
 pub returns-then-states-at : goal.returns-then-states-at
-returns-then-states-at c = lost (asks-absent (goal.at.returns-then-states-at c).In_default) _ (absent-way (goal.at.returns-then-states-at c).In_default) c.if-states-at.true
+returns-then-states-at c = lost (asks (goal.at.returns-then-states-at c).Else-ends) _ (absent_way (goal.at.returns-then-states-at c).In_default) c.if-states-at.true
 
 pub loop-at-smaller-in_default : goal.loop-at-smaller-in_default
-loop-at-smaller-in_default c = omega (arith, asks-absent (goal.at.loop-at-smaller-in_default c).In_default)
+loop-at-smaller-in_default c = omega (arith, asks (goal.at.loop-at-smaller-in_default c).Else-ends)
 
 pub loop-at-preserved-in_default : goal.loop-at-preserved-in_default
-loop-at-preserved-in_default c = rw (absent-mark (goal.at.loop-at-preserved-in_default c).In_default) at (moved (asks-absent (goal.at.loop-at-preserved-in_default c).In_default) _ (absent-way (goal.at.loop-at-preserved-in_default c).In_default) c.if-states-at.false)
+loop-at-preserved-in_default c = let asked = asks (goal.at.loop-at-preserved-in_default c).Else-ends in
+    rw (absent_mark (goal.at.loop-at-preserved-in_default c).In_default asked.known) at (moved asked _ (absent_way (goal.at.loop-at-preserved-in_default c).In_default) c.if-states-at.false)
 
 pub returns-then-states-at-2 : goal.returns-then-states-at-2
-returns-then-states-at-2 c = lost (asks-value (goal.at.returns-then-states-at-2 c).After-holds_word) _ (holds-way (goal.at.returns-then-states-at-2 c).Then-holds_word) c.if-states-at-2.true
+returns-then-states-at-2 c = lost (asks (goal.at.returns-then-states-at-2 c).Else-ends) _ (holds_way (goal.at.returns-then-states-at-2 c).Then-holds_word (reads (goal.at.returns-then-states-at-2 c).After-holds_word)) c.if-states-at-2.true
 
 pub loop-at-smaller-then-holds_word : goal.loop-at-smaller-then-holds_word
-loop-at-smaller-then-holds_word c = omega (arith, asks-value (goal.at.loop-at-smaller-then-holds_word c).After-holds_word)
+loop-at-smaller-then-holds_word c = omega (arith, asks (goal.at.loop-at-smaller-then-holds_word c).Else-ends)
 
 pub loop-at-preserved-then-holds_word : goal.loop-at-preserved-then-holds_word
-loop-at-preserved-then-holds_word c = rw (value-mark (goal.at.loop-at-preserved-then-holds_word c).After-holds_word) at (moved (asks-value (goal.at.loop-at-preserved-then-holds_word c).After-holds_word) _ (holds-way (goal.at.loop-at-preserved-then-holds_word c).Then-holds_word) c.if-states-at-2.false)
+loop-at-preserved-then-holds_word c = rw (value_mark (goal.at.loop-at-preserved-then-holds_word c).After-holds_word) at (moved (asks (goal.at.loop-at-preserved-then-holds_word c).Else-ends) _ (holds_way (goal.at.loop-at-preserved-then-holds_word c).Then-holds_word (reads (goal.at.loop-at-preserved-then-holds_word c).After-holds_word)) c.if-states-at-2.false)
 
 pub returns-then-states-next : goal.returns-then-states-next
-returns-then-states-next c = lost (asks-value (goal.at.returns-then-states-next c).After-holds_word) _ (fails-way (goal.at.returns-then-states-next c).Else-holds_word) c.if-states-next.true
+returns-then-states-next c = lost (asks (goal.at.returns-then-states-next c).Else-ends) _ (fails_way (goal.at.returns-then-states-next c).Else-holds_word (reads (goal.at.returns-then-states-next c).After-holds_word)) c.if-states-next.true
 
 pub follow-at-requires : goal.follow-at-requires
 follow-at-requires c =
-    (c.loop-at.invariant.inside, (c.if-states-next.false, (c.requires.few, (c.requires.in_bounds, (asks-value (goal.at.follow-at-requires c).After-holds_word).known))))
+    (c.loop-at.invariant.inside, (c.if-states-next.false, (c.requires.few, (c.requires.in_bounds, (asks (goal.at.follow-at-requires c).Else-ends).known))))
 
 pub loop-at-smaller : goal.loop-at-smaller
-loop-at-smaller c = omega (arith, asks-value (goal.at.loop-at-smaller c).After-holds_word, c.follow-at.ensures)
+loop-at-smaller c = omega (arith, asks (goal.at.loop-at-smaller c).Else-ends, c.follow-at.ensures)
 
 pub loop-at-preserved : goal.loop-at-preserved
-loop-at-preserved c = let next = rw (value-mark (goal.at.loop-at-preserved c).After-holds_word) at (moved (asks-value (goal.at.loop-at-preserved c).After-holds_word) _ (fails-way (goal.at.loop-at-preserved c).Else-holds_word) c.if-states-next.false) in
+loop-at-preserved c = let next = rw (value_mark (goal.at.loop-at-preserved c).After-holds_word) at (moved (asks (goal.at.loop-at-preserved c).Else-ends) _ (fails_way (goal.at.loop-at-preserved c).Else-holds_word (reads (goal.at.loop-at-preserved c).After-holds_word)) c.if-states-next.false) in
     walked_on next (reads (goal.at.loop-at-preserved c).After-holds_word) c.follow-at.ensures

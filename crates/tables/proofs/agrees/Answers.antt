@@ -19,43 +19,43 @@ use Rattle.tables.proofs.agrees.Goals as goal
 abbrev part : ℕ → List ℕ → List ℕ
 part n t = take (record_words * n + record_words - record_words * n) (drop (record_words * n) t)
 
-of-record : (n : ℕ) (t f : List ℕ) (b : Bool) → b ≡ agree (part n t) f → b ≡ agree (record_at t n) f
+of_record : (n : ℕ) (t f : List ℕ) (b : Bool) → b ≡ agree (part n t) f → b ≡ agree (record_at t n) f
 unfolding record_at
-of-record n t f b e =
+of_record n t f b e =
     let whole : record_words * n + record_words - record_words * n ≡ record_words = omega arith in
     e ∙ ap (λ (k : ℕ). agree (take k (drop (record_words * n) t)) f) whole
 
 module _ (f : Fresh) where
-  fresh-out : set_at (λ j. get_or (fresh_by f) j 0) out_at ≡ f.out
+  fresh_out : set_at (λ j. get_or (fresh_by f) j 0) out_at ≡ f.out
   unfolding fresh_by fresh_record
-  fresh-out = out_in (f.kind ∷ f.field ∷ f.mask ∷ f.value ∷ []) (λ _. 0) f.sure f.out refl
+  fresh_out = out_in (f.kind ∷ f.field ∷ f.mask ∷ f.value ∷ []) (λ _. 0) f.sure f.out refl
 
-  fresh-sure : set_at (λ j. get_or (fresh_by f) j 0) sure_at ≡ f.sure
+  fresh_sure : set_at (λ j. get_or (fresh_by f) j 0) sure_at ≡ f.sure
   unfolding fresh_by fresh_record
-  fresh-sure = sure_in (f.kind ∷ f.field ∷ f.mask ∷ f.value ∷ []) (λ _. 0) f.sure f.out refl
+  fresh_sure = sure_in (f.kind ∷ f.field ∷ f.mask ∷ f.value ∷ []) (λ _. 0) f.sure f.out refl
 
 module _ (w : List ℕ) (f : Fresh) (out : ℕ) (out_is : out ≡ set_at (λ j. get_or w j 0) out_at) where
-  other-out : (out ≡ f.out → ⊥) → false ≡ agree w (fresh_by f)
+  other_out : (out ≡ f.out → ⊥) → false ≡ agree w (fresh_by f)
   unfolding agree
-  other-out ne = rw (fresh-out f, ← out_is, ne_eqb out f.out ne)
+  other_out ne = rw (fresh_out f, ← out_is, ne_eqb out f.out ne)
 
   module _ (same_out : out ≡ f.out) (sure : ℕ) (sure-is : sure ≡ set_at (λ j. get_or w j 0) sure_at) where
     other-sure : (sure ≡ f.sure → ⊥) → false ≡ agree w (fresh_by f)
     unfolding agree
-    other-sure ne = rw (fresh-out f, ← out_is, eq-eqb out f.out same_out, fresh-sure f, ← sure-is, ne_eqb sure f.sure ne)
+    other-sure ne = rw (fresh_out f, ← out_is, eq-eqb out f.out same_out, fresh_sure f, ← sure-is, ne_eqb sure f.sure ne)
 
     same-sets : sure ≡ f.sure
         → (eqb (get_or w kind_at 0) f.kind && eqb (get_or w field_at 0) f.field && eqb (get_or w mask_at 0) f.mask && eqb (get_or w value_at 0) f.value) ≡ agree w (fresh_by f)
     unfolding agree fresh_by fresh_record record_with
-    same-sets same-sure = rw (fresh-out f, ← out_is, eq-eqb out f.out same_out, fresh-sure f, ← sure-is, eq-eqb sure f.sure same-sure)
+    same-sets same-sure = rw (fresh_out f, ← out_is, eq-eqb out f.out same_out, fresh_sure f, ← sure-is, eq-eqb sure f.sure same-sure)
 
 pub returns-then-set_at-fresh : goal.returns-then-set_at-fresh
-returns-then-set_at-fresh c = of-record c.args.n c.args.table.now (fresh_by c.args.fresh) false (other-out (part c.args.n c.args.table.now) c.args.fresh c.set_at.result c.set_at.ensures c.if-set_at-fresh.true)
+returns-then-set_at-fresh c = of_record c.args.n c.args.table.now (fresh_by c.args.fresh) false (other_out (part c.args.n c.args.table.now) c.args.fresh c.set_at.result c.set_at.ensures c.if-set_at-fresh.true)
 
 pub returns-then-set_at-fresh-2 : goal.returns-then-set_at-fresh-2
-returns-then-set_at-fresh-2 c = of-record c.args.n c.args.table.now (fresh_by c.args.fresh) false
+returns-then-set_at-fresh-2 c = of_record c.args.n c.args.table.now (fresh_by c.args.fresh) false
     (other-sure (part c.args.n c.args.table.now) c.args.fresh c.set_at.result c.set_at.ensures c.if-set_at-fresh.false c.set_at-2.result c.set_at-2.ensures c.if-set_at-fresh-2.true)
 
 pub returns : goal.returns
-returns c = of-record c.args.n c.args.table.now (fresh_by c.args.fresh) _
+returns c = of_record c.args.n c.args.table.now (fresh_by c.args.fresh) _
     (same-sets (part c.args.n c.args.table.now) c.args.fresh c.set_at.result c.set_at.ensures c.if-set_at-fresh.false c.set_at-2.result c.set_at-2.ensures c.if-set_at-fresh-2.false)

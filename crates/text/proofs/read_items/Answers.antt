@@ -10,13 +10,13 @@ use borrow.Author.Rules.{rules}
 use Rattle.text.proofs.read_items.Goals as goal
 
 -- Where an item has ended, in the text or at its end, there is room for its word.
-room-here : (c : goal.In-Word) → c.loop-i.count < max_items
-room-here c =
+room_here : (c : goal.In-Word) → c.loop-i.count < max_items
+room_here c =
     word_room _ _ _ _ _ _ c.loop-i.invariant _ c.loop-i-test.true
     (sym c.step_by.ensures ∙ c.in-Word.is)
 
-room-last : (c : goal.In-Inside) → c.loop-i.count < max_items
-room-last c = last_room _ _ _ _ _ _ c.loop-i.invariant _ c.in-Inside.is
+room_last : (c : goal.In-Inside) → c.loop-i.count < max_items
+room_last c = last_room _ _ _ _ _ _ c.loop-i.invariant _ c.in-Inside.is
 
 pub loop-i-init : goal.loop-i-init
 loop-i-init c = begun _ _ (search rules) (search rules)
@@ -30,13 +30,13 @@ loop-i-preserved-in-Digit c = spelt _ _ _ _ _ _ c.loop-i.invariant _ c.loop-i-te
     (sym c.step_by.ensures ∙ c.in-Digit.is)
 
 pub offset_bounds-words-count : goal.offset_bounds-words-count
-offset_bounds-words-count c = omega (arith, room-here c)
+offset_bounds-words-count c = omega (arith, room_here c)
 
 pub bounds-words-count : goal.bounds-words-count
-bounds-words-count c = omega (arith, room-here c)
+bounds-words-count c = omega (arith, room_here c)
 
 pub overflow_add-count : goal.overflow_add-count
-overflow_add-count c = omega (arith, room-here c)
+overflow_add-count c = omega (arith, room_here c)
 
 pub loop-i-preserved : goal.loop-i-preserved
 loop-i-preserved c = stored _ _ _ _ _ _ c.loop-i.invariant _ c.loop-i-test.true
@@ -47,13 +47,13 @@ returns-in-Wrong c = wrong_read _ _ _ _ _ _ c.loop-i.invariant c.loop-i-test.tru
     (sym c.step_by.ensures ∙ c.in-Wrong.is)
 
 pub offset_bounds-words-count-in-Inside : goal.offset_bounds-words-count-in-Inside
-offset_bounds-words-count-in-Inside c = omega (arith, room-last c)
+offset_bounds-words-count-in-Inside c = omega (arith, room_last c)
 
 pub bounds-words-count-in-Inside : goal.bounds-words-count-in-Inside
-bounds-words-count-in-Inside c = omega (arith, room-last c)
+bounds-words-count-in-Inside c = omega (arith, room_last c)
 
 pub overflow_add-result : goal.overflow_add-result
-overflow_add-result c = omega (arith, room-last c)
+overflow_add-result c = omega (arith, room_last c)
 
 pub returns-in-Between : goal.returns-in-Between
 returns-in-Between c = ended_apart _ _ _ _ _ _ c.loop-i.invariant c.loop-i-test.false c.in-Between.is

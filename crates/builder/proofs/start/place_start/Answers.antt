@@ -17,8 +17,8 @@ use Rattle.builder.proofs.start.place_start.Goals as goal
 abbrev words : List ℕ
 words = replicate slot_words 0
 
-some-slot : (n : ℕ) → (n ≡ 0 → ⊥) → 0 < n
-some-slot n h = omega arith
+some_slot : (n : ℕ) → (n ≡ 0 → ⊥) → 0 < n
+some_slot n h = omega arith
 
 -- What is stored are the start's words.
 begun : (n slots : ℕ) (ranks t s c c' t₁ s₁ : List ℕ) → c ≡ c' → Stored n slots ranks 0 t s c t₁ s₁ → Stored n slots ranks 0 t s c' t₁ s₁
@@ -58,7 +58,7 @@ fresh_of-fresh-requires c = let roomy = A.start_roomy c.args.n c.args.slots c.ar
 
 pub store-requires : goal.store-requires
 store-requires c = let roomy = A.start_roomy c.args.n c.args.slots c.args.ranks.now c.args.list.now c.args.table.now c.args.scratch.now c.requires in
-    A.store_asks c.args.n c.args.slots c.args.ranks.now c.args.list.now c.args.table.now c.args.scratch.now c.requires _ (front_whole c.args.n words roomy c.start_into.new.dst c.start_into.auto.dst) (some-slot c.args.slots c.if-slots-eq0.false)
+    A.store_asks c.args.n c.args.slots c.args.ranks.now c.args.list.now c.args.table.now c.args.scratch.now c.requires _ (front_whole c.args.n words roomy c.start_into.new.dst c.start_into.auto.dst) (some_slot c.args.slots c.if-slots-eq0.false)
 
 pub slice_bounds-place_state-end : goal.slice_bounds-place_state-end
 slice_bounds-place_state-end c = sym (length_front words c.start_into.new.dst (filter_slot * c.args.n) c.start_into.auto.dst)
@@ -66,7 +66,7 @@ slice_bounds-place_state-end c = sym (length_front words c.start_into.new.dst (f
 pub place_state-requires : goal.place_state-requires
 place_state-requires c = let roomy = A.start_roomy c.args.n c.args.slots c.args.ranks.now c.args.list.now c.args.table.now c.args.scratch.now c.requires in
     let made = front_is c.args.n words roomy c.start_into.new.dst c.start_into.auto.dst ∙ c.start_into.ensures in
-    let some = some-slot c.args.slots c.if-slots-eq0.false in
+    let some = some_slot c.args.slots c.if-slots-eq0.false in
     let kept = begun _ _ _ _ _ _ _ _ _ made (c.store.ensures c.args.ranks.now c.fresh_of-fresh.ensures) in record {
       ready = A.ready_start c.args.n c.args.slots c.args.ranks.now c.args.list.now c.args.table.now c.args.scratch.now c.requires _ _ some c.store.auto.table c.store.auto.scratch
           (S.told_begin c.args.n c.args.slots c.args.ranks.now c.args.list.now c.args.table.now c.args.scratch.now c.requires some c.store.new.table c.store.new.scratch kept);
@@ -78,5 +78,5 @@ pub returns : goal.returns
 returns c = let roomy = A.start_roomy c.args.n c.args.slots c.args.ranks.now c.args.list.now c.args.table.now c.args.scratch.now c.requires in
     let made = front_is c.args.n words roomy c.start_into.new.dst c.start_into.auto.dst ∙ c.start_into.ensures in
     S.started c.args.n c.args.slots c.args.ranks.now c.args.list.now c.args.table.now c.args.scratch.now c.requires
-    (some-slot c.args.slots c.if-slots-eq0.false) c.store.new.table c.store.new.scratch (begun _ _ _ _ _ _ _ _ _ made (c.store.ensures c.args.ranks.now c.fresh_of-fresh.ensures))
+    (some_slot c.args.slots c.if-slots-eq0.false) c.store.new.table c.store.new.scratch (begun _ _ _ _ _ _ _ _ _ made (c.store.ensures c.args.ranks.now c.fresh_of-fresh.ensures))
     c.place_state.result c.place_state.new.table c.place_state.new.scratch c.place_state.ensures

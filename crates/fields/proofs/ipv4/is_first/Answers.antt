@@ -9,8 +9,8 @@ use borrow.Author.Tests.{leb-true, le-leb, eqb-true, eq-eqb}
 use Rattle.residue.specs.laws.Choice.{same_bool, both, first, second}
 use Rattle.fields.proofs.ipv4.is_first.Goals as goal
 
-one-range : (x : ℕ) → (leb 69 x && leb x 79) ≡ (eqb (x / 16) 4 && leb 5 (x % 16))
-one-range x =
+one_range : (x : ℕ) → (leb 69 x && leb x 79) ≡ (eqb (x / 16) 4 && leb 5 (x % 16))
+one_range x =
     same_bool (leb 69 x && leb x 79) (eqb (x / 16) 4 && leb 5 (x % 16))
     (λ h.
     let low = leb-true 69 x (first (leb 69 x) (leb x 79) h) in
@@ -22,4 +22,4 @@ one-range x =
     both (leb 69 x) (leb x 79) (le-leb 69 x (omega arith)) (le-leb x 79 (omega arith)))
 
 pub returns : goal.returns
-returns c = one-range c.args.byte
+returns c = one_range c.args.byte

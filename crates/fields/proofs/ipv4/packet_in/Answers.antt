@@ -7,13 +7,12 @@ use Prim.Native.Nat.{ℕ, ◌*◌, ◌%◌}
 use mathlib.Core.Path.{◌≡◌, sym, ap, ◌∙◌}
 use mathlib.Core.Bool.{true, and-false}
 use mathlib.Core.List.{List}
+use Rattle.fields.specs.Bytes.{byte}
+use Rattle.fields.specs.Ethernet.{ip_start}
 use Rattle.fields.specs.Ipv4.{internet, header_length, total_length, transport_start, transport_end}
 use Rattle.fields.proofs.Headers.{no_first, is_first}
 use Rattle.fields.proofs.ipv4.packet_in.Goals as goal
-use Rattle.fields.proofs.ipv4.packet_in.Goals.{Else-frame-end, Else-not-is_first}
-
-abbrev frame_at : (c : Else-not-is_first) → List ℕ
-frame_at c = c.args.frame.now
+use Rattle.fields.proofs.ipv4.packet_in.Goals.{Else-frame-end}
 
 pub returns-then-frame-lt-LEAST_FRAME : goal.returns-then-frame-lt-LEAST_FRAME
 unfolding internet
@@ -37,27 +36,20 @@ pub returns-then-frame-end : goal.returns-then-frame-end
 unfolding internet header_length total_length
 returns-then-frame-end c = simp (← c.two_at-total.ensures, lt-leb _ _ c.if-frame-end.true, and-false)
 
--- The header length and the total length as the code has them.
-header-known : (c : Else-not-is_first) → 4 * (c.byte_at-first.result % 16) ≡ header_length (frame_at c)
+-- The header length as the code has it.
+header_known : (f : List ℕ) {b : ℕ} → b ≡ byte f ip_start → 4 * (b % 16) ≡ header_length f
 unfolding header_length
-header-known c = ap (λ (x : ℕ). 4 * (x % 16)) c.byte_at-first.ensures
+header_known f e = ap (λ (x : ℕ). 4 * (x % 16)) e
 
-abbrev frame_at-at-Else-frame-end : (c : Else-frame-end) → List ℕ
-frame_at-at-Else-frame-end c = c.args.frame.now
-
-header-known-at-Else-frame-end : (c : Else-frame-end) → 4 * (c.byte_at-first.result % 16) ≡ header_length (frame_at-at-Else-frame-end c)
-unfolding header_length
-header-known-at-Else-frame-end c = ap (λ (x : ℕ). 4 * (x % 16)) c.byte_at-first.ensures
-
-whole : (c : Else-frame-end) → internet (frame_at-at-Else-frame-end c) ≡ true
+whole : (c : Else-frame-end) → internet c.args.frame.now ≡ true
 unfolding internet total_length
 whole c =
-    let first = is_first (frame_at-at-Else-frame-end c) (rw c.byte_at-first.ensures at (sym c.is_first.ensures ∙ not-false c.is_first.result c.if-not-is_first.false-raw)) in
+    let first = is_first c.args.frame.now (rw c.byte_at-first.ensures at (sym c.is_first.ensures ∙ not-false c.is_first.result c.if-not-is_first.false-raw)) in
     rw (first.0, first.1)
     (simp (
       ← c.two_at-total.ensures,
       ← c.two_at.ensures,
-      ← header-known-at-Else-frame-end c,
+      ← header_known c.args.frame.now c.byte_at-first.ensures,
       eq-eqb _ _ c.if-two_at-ne-IPV4.false,
       le-leb _ _ c.if-frame-lt-LEAST_FRAME.false,
       le-leb _ _ c.if-total-header.false,
@@ -66,7 +58,7 @@ whole c =
 
 pub returns-then-two_at-ne0 : goal.returns-then-two_at-ne0
 unfolding transport_start transport_end
-returns-then-two_at-ne0 c = rw (whole (goal.at.returns-then-two_at-ne0 c).Else-frame-end, ← c.two_at-2.ensures, ne_eqb _ _ c.if-two_at-ne0.true, ← header-known (goal.at.returns-then-two_at-ne0 c).Else-not-is_first)
+returns-then-two_at-ne0 c = rw (whole (goal.at.returns-then-two_at-ne0 c).Else-frame-end, ← c.two_at-2.ensures, ne_eqb _ _ c.if-two_at-ne0.true, ← header_known c.args.frame.now c.byte_at-first.ensures)
 
 pub returns : goal.returns
 unfolding total_length transport_start transport_end
@@ -74,6 +66,6 @@ returns c = rw (
   whole (goal.at.returns c).Else-frame-end,
   ← c.two_at-2.ensures,
   eq-eqb _ _ c.if-two_at-ne0.false,
-  ← header-known (goal.at.returns c).Else-not-is_first,
+  ← header_known c.args.frame.now c.byte_at-first.ensures,
   ← c.two_at-total.ensures,
 )
