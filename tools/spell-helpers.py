@@ -12,7 +12,7 @@ import sys
 
 ROOT = sys.argv[1] if len(sys.argv) > 1 else "."
 TOKEN = re.compile(r"[^\s(){}\[\],;.:\"`|@⌜⌝«»]+")
-DECLARED = re.compile(r"^(?: {2})?(?:(?:abbrev|unfoldable|pub) )*([^\s:(){}.;,\[\]]+) ?:(?:\s(.*)|)$", re.M)
+DECLARED = re.compile(r"^ *(?:(?:abbrev|unfoldable|pub) )*([^\s:(){}.;,\[\]]+) ?:(?:\s(.*)|)$", re.M)
 
 
 def files():

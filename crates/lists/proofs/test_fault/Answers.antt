@@ -17,22 +17,22 @@ module _ (k f m v : ℕ) where
   kind_wrong a = rw a
 
   module _ (a : (eqb k 0 || ltb kind_at_least k) ≡ false) where
-    field-high : field_count ≤ f → 6 ≡ test_fault k f m v
+    field_high : field_count ≤ f → 6 ≡ test_fault k f m v
     unfolding test_fault
-    field-high b = rw (a, le-leb _ _ b)
+    field_high b = rw (a, le-leb _ _ b)
 
     module _ (b : f < field_count) where
       abbrev misfit : Bool
       misfit = cond (masked k) (eqb m 0) (not (eqb m 0))
 
-      mask-wrong : misfit ≡ true → 7 ≡ test_fault k f m v
+      mask_wrong : misfit ≡ true → 7 ≡ test_fault k f m v
       unfolding test_fault
-      mask-wrong c = rw (a, lt-leb _ _ b, c)
+      mask_wrong c = rw (a, lt-leb _ _ b, c)
 
       module _ (c : misfit ≡ false) (full : ℕ) (is : full ≡ full_of f) where
-        above-full : (ltb full m || ltb full v) ≡ true → 8 ≡ test_fault k f m v
+        above_full : (ltb full m || ltb full v) ≡ true → 8 ≡ test_fault k f m v
         unfolding test_fault
-        above-full d = rw (a, lt-leb _ _ b, c, ← is, d)
+        above_full d = rw (a, lt-leb _ _ b, c, ← is, d)
 
         module _ (d : (ltb full m || ltb full v) ≡ false) where
           outside : (masked k && not (eqb (bit_and v m) v)) ≡ true → 9 ≡ test_fault k f m v
@@ -47,13 +47,13 @@ pub returns-then-kind : goal.returns-then-kind
 returns-then-kind c = kind_wrong _ _ _ _ c.if-kind.true
 
 pub returns-then-field-ge-FIELDS : goal.returns-then-field-ge-FIELDS
-returns-then-field-ge-FIELDS c = field-high _ _ _ _ c.if-kind.false c.if-field-ge-FIELDS.true
+returns-then-field-ge-FIELDS c = field_high _ _ _ _ c.if-kind.false c.if-field-ge-FIELDS.true
 
 pub returns-then-wrong_mask : goal.returns-then-wrong_mask
-returns-then-wrong_mask c = mask-wrong _ _ _ _ c.if-kind.false c.if-field-ge-FIELDS.false (sym c.wrong_mask.ensures ∙ c.if-wrong_mask.true)
+returns-then-wrong_mask c = mask_wrong _ _ _ _ c.if-kind.false c.if-field-ge-FIELDS.false (sym c.wrong_mask.ensures ∙ c.if-wrong_mask.true)
 
 pub returns-then-full-mask : goal.returns-then-full-mask
-returns-then-full-mask c = above-full _ _ _ _ c.if-kind.false c.if-field-ge-FIELDS.false (sym c.wrong_mask.ensures ∙ c.if-wrong_mask.false) c.full_of-full.result c.full_of-full.ensures c.if-full-mask.true
+returns-then-full-mask c = above_full _ _ _ _ c.if-kind.false c.if-field-ge-FIELDS.false (sym c.wrong_mask.ensures ∙ c.if-wrong_mask.false) c.full_of-full.result c.full_of-full.ensures c.if-full-mask.true
 
 pub returns-then-kind-value : goal.returns-then-kind-value
 returns-then-kind-value c = outside _ _ _ _ c.if-kind.false c.if-field-ge-FIELDS.false (sym c.wrong_mask.ensures ∙ c.if-wrong_mask.false) c.full_of-full.result c.full_of-full.ensures c.if-full-mask.false c.if-kind-value.true

@@ -1,6 +1,6 @@
 -- What an accepted list has: as many filters and tests as were counted, and every test well formed.
 --   accepted_count, accepted_well   of the whole list
---   well_few, well_items_lem            of one filter
+--   well_few, well_items_lem        of one filter
 use Rattle.std.specs.Prelude.{ℕ, zero, suc, ◌+◌, ◌*◌, ◌≤◌, ◌≡◌, refl, Bool, true, false, not, ◌&&◌, List, [], ◌∷◌, leb, eqb, length, get_or, drop}
 use Rattle.std.proofs.Common.{zero-lt-suc, arith, ap₂, ◌∙◌, leb-true, lt-ltb, le-leb}
 use Rattle.std.specs.Int.Bits.{bit_and}

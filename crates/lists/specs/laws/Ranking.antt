@@ -1,7 +1,7 @@
 -- Ranks are an order: no filter ranks above itself, and above is transitive; and what a rank set says of a set of filters.
---   alone_above, alone_below    a filter of group 0 ranks above none and below none
---   get_or_rank_sets, rank_set_in   a filter's rank set
---   rank_set_clear               none of a set of the list's filters ranks above a filter
+--   alone_above, alone_below         a filter of group 0 ranks above none and below none
+--   get_or_rank_sets, rank_set_in    a filter's rank set
+--   rank_set_clear                   none of a set of the list's filters ranks above a filter
 use Rattle.std.specs.Prelude.{ℕ, ◌≤◌, ◌<◌, ◌≡◌, Bool, ◌&&◌, ◌||◌, List, length, get_or}
 use Rattle.std.proofs.Common.{arith, ap, ◌∙◌}
 use Rattle.std.proofs.Math.Path.{refl}

@@ -40,22 +40,22 @@ module _ (w : List ℕ) (f : Fresh) (out : ℕ) (out_is : out ≡ set_at (λ j. 
   other_out ne = rw (fresh_out f, ← out_is, ne_eqb out f.out ne)
 
   module _ (same_out : out ≡ f.out) (sure : ℕ) (sure-is : sure ≡ set_at (λ j. get_or w j 0) sure_at) where
-    other-sure : (sure ≡ f.sure → ⊥) → false ≡ agree w (fresh_by f)
+    other_sure : (sure ≡ f.sure → ⊥) → false ≡ agree w (fresh_by f)
     unfolding agree
-    other-sure ne = rw (fresh_out f, ← out_is, eq-eqb out f.out same_out, fresh_sure f, ← sure-is, ne_eqb sure f.sure ne)
+    other_sure ne = rw (fresh_out f, ← out_is, eq-eqb out f.out same_out, fresh_sure f, ← sure-is, ne_eqb sure f.sure ne)
 
-    same-sets : sure ≡ f.sure
+    same_sets : sure ≡ f.sure
         → (eqb (get_or w kind_at 0) f.kind && eqb (get_or w field_at 0) f.field && eqb (get_or w mask_at 0) f.mask && eqb (get_or w value_at 0) f.value) ≡ agree w (fresh_by f)
     unfolding agree fresh_by fresh_record record_with
-    same-sets same-sure = rw (fresh_out f, ← out_is, eq-eqb out f.out same_out, fresh_sure f, ← sure-is, eq-eqb sure f.sure same-sure)
+    same_sets same-sure = rw (fresh_out f, ← out_is, eq-eqb out f.out same_out, fresh_sure f, ← sure-is, eq-eqb sure f.sure same-sure)
 
 pub returns-then-set_at-fresh : goal.returns-then-set_at-fresh
 returns-then-set_at-fresh c = of_record c.args.n c.args.table.now (fresh_by c.args.fresh) false (other_out (part c.args.n c.args.table.now) c.args.fresh c.set_at.result c.set_at.ensures c.if-set_at-fresh.true)
 
 pub returns-then-set_at-fresh-2 : goal.returns-then-set_at-fresh-2
 returns-then-set_at-fresh-2 c = of_record c.args.n c.args.table.now (fresh_by c.args.fresh) false
-    (other-sure (part c.args.n c.args.table.now) c.args.fresh c.set_at.result c.set_at.ensures c.if-set_at-fresh.false c.set_at-2.result c.set_at-2.ensures c.if-set_at-fresh-2.true)
+    (other_sure (part c.args.n c.args.table.now) c.args.fresh c.set_at.result c.set_at.ensures c.if-set_at-fresh.false c.set_at-2.result c.set_at-2.ensures c.if-set_at-fresh-2.true)
 
 pub returns : goal.returns
 returns c = of_record c.args.n c.args.table.now (fresh_by c.args.fresh) _
-    (same-sets (part c.args.n c.args.table.now) c.args.fresh c.set_at.result c.set_at.ensures c.if-set_at-fresh.false c.set_at-2.result c.set_at-2.ensures c.if-set_at-fresh-2.false)
+    (same_sets (part c.args.n c.args.table.now) c.args.fresh c.set_at.result c.set_at.ensures c.if-set_at-fresh.false c.set_at-2.result c.set_at-2.ensures c.if-set_at-fresh-2.false)
