@@ -7,13 +7,11 @@
 --   from_at_most c t       the line x ≤ c
 --   from_at_least f c t    the line x ≥ c
 --   residue_by f k t      what the fact k leaves of t, on a field whose greatest number is f
-use Rattle.std.specs.Prelude.{ℕ, ◌+◌, ◌-◌, Bool, cond, ◌&&◌, leb, ltb, eqb}
+use Rattle.std.specs.Prelude.{ℕ, ◌+◌, ◌-◌, Bool, cond, ◌&&◌, leb, ltb, eqb, Option, None, Some}
 use Rattle.std.specs.Int.Bits.{bit_and}
 use Rattle.residue.specs.Tests.{holds}
 use Rattle.residue.specs.declared.Test.{Test}
 use Rattle.residue.specs.declared.Test.TheVariants.{Equal, Differs, AtMost, AtLeast}
-use Rattle.residue.specs.declared.Fact.{Fact}
-use Rattle.residue.specs.declared.Fact.TheVariants.{Absent, Known}
 use Rattle.residue.specs.declared.Residue.{Residue}
 use Rattle.residue.specs.declared.Residue.TheVariants.{True, False, Left}
 
@@ -67,9 +65,9 @@ from_at_least full b (Differs m v) = cond (ltb (v + (full - m)) b) True (Left (D
 from_at_least full b (AtMost c) = cond (ltb c b) False (Left (AtMost c))
 from_at_least full b (AtLeast c) = cond (leb c b) True (Left (AtLeast c))
 
-unfoldable pub residue_by : ℕ → Fact → Test → Residue
-residue_by full Absent t = False
-residue_by full (Known (Equal k w)) t = from_equal full k w t
-residue_by full (Known (Differs k w)) t = from_differs k w t
-residue_by full (Known (AtMost b)) t = from_at_most b t
-residue_by full (Known (AtLeast b)) t = from_at_least full b t
+unfoldable pub residue_by : ℕ → Option Test → Test → Residue
+residue_by full None t = False
+residue_by full (Some (Equal k w)) t = from_equal full k w t
+residue_by full (Some (Differs k w)) t = from_differs k w t
+residue_by full (Some (AtMost b)) t = from_at_most b t
+residue_by full (Some (AtLeast b)) t = from_at_least full b t

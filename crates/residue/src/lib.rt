@@ -7,7 +7,7 @@ ghost use Rattle.residue.specs.Facts.{fact_of, fails_fact};
 ghost use Rattle.residue.specs.Residues.{outside, covers, reduced_equal, reduced_differs, from_masked, from_equal, from_differs, from_at_most, from_at_least, residue_by};
 
 // A test on a field: equal under a mask, differs under a mask (mask, value), at most, at least.
-#[derive(Clone, Copy)]
+#[derive(Clone, Copy, Debug, PartialEq, Eq)]
 pub enum Test {
     Equal(u32, u32),
     Differs(u32, u32),
@@ -15,30 +15,16 @@ pub enum Test {
     AtLeast(u32),
 }
 
-// What a frame has in a field.
-#[derive(Clone, Copy)]
-pub enum Reading {
-    Absent,
-    Value(u32),
-}
-
 // What a question came to.
-#[derive(Clone, Copy)]
+#[derive(Clone, Copy, Debug, PartialEq, Eq)]
 pub enum Outcome {
     Holds,
     Fails,
     Absent,
 }
 
-// What is known of a field: the frame lacks it, or a test holds of it.
-#[derive(Clone, Copy)]
-pub enum Fact {
-    Absent,
-    Known(Test),
-}
-
 // What is left of a test.
-#[derive(Clone, Copy)]
+#[derive(Clone, Copy, Debug, PartialEq, Eq)]
 pub enum Residue {
     True,
     False,
@@ -58,47 +44,47 @@ pub fn test_holds(t: Test, x: u32) -> bool
 }
 
 // At most c fails: at least c + 1, which is not formed where c is full, so the sum stays within a word.
-fn above(full: u32, c: u32) -> Fact
+fn above(full: u32, c: u32) -> Option<Test>
     ensures { result ≡ fails_fact full (Test.AtMost c) }
 {
     if full <= c {
-        Fact::Absent
+        None
     } else {
-        Fact::Known(Test::AtLeast(c + 1))
+        Some(Test::AtLeast(c + 1))
     }
 }
 
 // At least c fails: at most c - 1, which is not formed where c is 0.
-fn below(full: u32, c: u32) -> Fact
+fn below(full: u32, c: u32) -> Option<Test>
     ensures { result ≡ fails_fact full (Test.AtLeast c) }
 {
     if c == 0 {
-        Fact::Absent
+        None
     } else {
-        Fact::Known(Test::AtMost(c - 1))
+        Some(Test::AtMost(c - 1))
     }
 }
 
 // The opposite of a test, on a present field.
-fn fails_fact(full: u32, t: Test) -> Fact
+fn fails_fact(full: u32, t: Test) -> Option<Test>
     ensures { result ≡ fails_fact full t }
 {
     match t {
-        Test::Equal(m, v) => Fact::Known(Test::Differs(m, v)),
-        Test::Differs(m, v) => Fact::Known(Test::Equal(m, v)),
+        Test::Equal(m, v) => Some(Test::Differs(m, v)),
+        Test::Differs(m, v) => Some(Test::Equal(m, v)),
         Test::AtMost(c) => above(full, c),
         Test::AtLeast(c) => below(full, c),
     }
 }
 
 // The fact that the question t gives at an outcome.
-pub fn fact_of(full: u32, o: Outcome, t: Test) -> Fact
+pub fn fact_of(full: u32, o: Outcome, t: Test) -> Option<Test>
     ensures { result ≡ fact_of full o t }
 {
     match o {
-        Outcome::Holds => Fact::Known(t),
+        Outcome::Holds => Some(t),
         Outcome::Fails => fails_fact(full, t),
-        Outcome::Absent => Fact::Absent,
+        Outcome::Absent => None,
     }
 }
 
@@ -239,10 +225,10 @@ fn from_at_least(full: u32, b: u32, t: Test) -> Residue
 }
 
 // What the fact k leaves of the test t, on a field whose greatest number is full.
-pub fn residue_of(full: u32, k: Fact, t: Test) -> Residue
+pub fn residue_of(full: u32, k: Option<Test>, t: Test) -> Residue
     ensures { result ≡ residue_by full k t }
 {
-    let Fact::Known(f) = k else {
+    let Some(f) = k else {
         return Residue::False;
     };
     match f {

@@ -2,7 +2,7 @@
 // and prints what is left of each test: true, false, or the kind, mask and value of the test.
 #![tactic(auto)]
 
-use residue::{Fact, Residue, Test};
+use residue::{Residue, Test};
 use std::io;
 
 fn put_word(rt: &impl Print, n: u32) -> io::Result<()> {
@@ -44,14 +44,14 @@ fn put_residue(rt: &impl Print, d: Residue) -> io::Result<()> {
     }
 }
 
-fn run(rt: &impl Print, label: &[u8], full: u32, k: Fact, t: Test) -> io::Result<()> {
+fn run(rt: &impl Print, label: &[u8], full: u32, k: Option<Test>, t: Test) -> io::Result<()> {
     rt.write_all(label)?;
     put_residue(rt, residue::residue_of(full, k, t))
 }
 
 // A test on an 8-bit field where x & 0xF0 = 0x70 is known.
 fn under_high(rt: &impl Print, label: &[u8], t: Test) -> io::Result<()> {
-    run(rt, label, 255, Fact::Known(Test::Equal(0xF0, 0x70)), t)
+    run(rt, label, 255, Some(Test::Equal(0xF0, 0x70)), t)
 }
 
 // The document's unmarked cases, then both sides of each edge.
@@ -71,39 +71,27 @@ fn high_known(rt: &impl Print) -> io::Result<()> {
 
 // What no line settles, and the absent field.
 fn other_known(rt: &impl Print) -> io::Result<()> {
-    let no_line = Fact::Known(Test::AtLeast(9));
-    let zero = Fact::Known(Test::AtMost(0));
-    let not_zero = Fact::Known(Test::Differs(255, 0));
+    let no_line = Some(Test::AtLeast(9));
+    let zero = Some(Test::AtMost(0));
+    let not_zero = Some(Test::Differs(255, 0));
     rt.write_all(b"other facts, 8 bits\n")?;
     run(rt, b"x <= 255, x >= 9: ", 255, no_line, Test::AtMost(255))?;
     run(rt, b"x = 0, x <= 0: ", 255, zero, Test::Equal(255, 0))?;
     run(rt, b"x >= 1, x != 0: ", 255, not_zero, Test::AtLeast(1))?;
-    run(
-        rt,
-        b"x = 7, absent: ",
-        255,
-        Fact::Absent,
-        Test::Equal(255, 7),
-    )?;
-    run(
-        rt,
-        b"x != 7, absent: ",
-        255,
-        Fact::Absent,
-        Test::Differs(255, 7),
-    )
+    run(rt, b"x = 7, absent: ", 255, None, Test::Equal(255, 7))?;
+    run(rt, b"x != 7, absent: ", 255, None, Test::Differs(255, 7))
 }
 
 // A test on a 32-bit field where the first byte is known to be 10: v' + full passes a word there.
 fn under_ten(rt: &impl Print, label: &[u8], t: Test) -> io::Result<()> {
     let ten = Test::Equal(0xFF00_0000, 0x0A00_0000);
-    run(rt, label, 0xFFFF_FFFF, Fact::Known(ten), t)
+    run(rt, label, 0xFFFF_FFFF, Some(ten), t)
 }
 
 // What a fact leaves of "the first byte is 10".
 fn of_ten(rt: &impl Print, label: &[u8], k: Test) -> io::Result<()> {
     let ten = Test::Equal(0xFF00_0000, 0x0A00_0000);
-    run(rt, label, 0xFFFF_FFFF, Fact::Known(k), ten)
+    run(rt, label, 0xFFFF_FFFF, Some(k), ten)
 }
 
 fn wide(rt: &impl Print) -> io::Result<()> {

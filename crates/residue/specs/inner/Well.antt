@@ -3,12 +3,10 @@
 --   well_formed f t     the test t
 --   well_known f k      the fact k speaks of a well-formed test
 --   well_left f d       the residue d leaves a well-formed test, or none
-use Rattle.std.specs.Prelude.{ℕ, Bool, not, ◌&&◌, true, leb, eqb}
+use Rattle.std.specs.Prelude.{ℕ, Bool, not, ◌&&◌, true, leb, eqb, Option, None, Some}
 use Rattle.std.specs.Int.Bits.{bit_and}
 use Rattle.residue.specs.declared.Test.{Test}
 use Rattle.residue.specs.declared.Test.TheVariants.{Equal, Differs, AtMost, AtLeast}
-use Rattle.residue.specs.declared.Fact.{Fact}
-use Rattle.residue.specs.declared.Fact.TheVariants as F
 use Rattle.residue.specs.declared.Residue.{Residue}
 use Rattle.residue.specs.declared.Residue.TheVariants.{True, False, Left}
 
@@ -22,9 +20,9 @@ well_formed full (Differs m v) = well_masked full m v
 well_formed full (AtMost c) = leb c full
 well_formed full (AtLeast c) = leb c full
 
-unfoldable pub well_known : ℕ → Fact → Bool
-well_known full F.Absent = true
-well_known full (F.Known t) = well_formed full t
+unfoldable pub well_known : ℕ → Option Test → Bool
+well_known full None = true
+well_known full (Some t) = well_formed full t
 
 -- A residue that is a well-formed test, or none at all.
 unfoldable pub well_left : ℕ → Residue → Bool

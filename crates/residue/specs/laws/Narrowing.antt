@@ -1,5 +1,5 @@
 -- What is left of a test is the test on some of its bits, and so it is well formed.
-use Rattle.std.specs.Prelude.{ℕ, ◌+◌, ◌-◌, ◌≡◌, refl, Bool, true, false, not, cond, ◌&&◌, eqb, leb, ltb}
+use Rattle.std.specs.Prelude.{ℕ, ◌+◌, ◌-◌, ◌≡◌, refl, Bool, true, false, not, cond, ◌&&◌, eqb, leb, ltb, Option, None, Some}
 use Rattle.std.proofs.Common.{sym, ap, ap₂, ◌∙◌, arith, eqb-true, le-leb, ne_eqb, eq-eqb}
 use Rattle.std.proofs.lemmas.Bool.{false≢true, eqb-false, not-true}
 use Rattle.std.specs.Int.Bits.{bit_and, and_self}
@@ -14,8 +14,6 @@ use Rattle.residue.specs.laws.Bits.{and_twice, and_outside, outside_in}
 use Rattle.residue.specs.laws.Lines.{masked}
 use Rattle.residue.specs.declared.Test.{Test}
 use Rattle.residue.specs.declared.Test.TheVariants.{Equal, Differs, AtMost, AtLeast}
-use Rattle.residue.specs.declared.Fact.{Fact}
-use Rattle.residue.specs.declared.Fact.TheVariants as F
 use Rattle.residue.specs.declared.Residue.{Residue}
 use Rattle.residue.specs.declared.Residue.TheVariants.{True, False, Left}
 
@@ -217,13 +215,13 @@ equal_narrows full k w t h =
     (λ _. masked_narrows full k w t h)
 
 -- What a fact leaves of a test is the test on some of its bits.
-pub residue_narrows : (full : ℕ) (k : Fact) (t : Test) → well_formed full t ≡ true → every_left (narrows t) (residue_by full k t) ≡ true
+pub residue_narrows : (full : ℕ) (k : Option Test) (t : Test) → well_formed full t ≡ true → every_left (narrows t) (residue_by full k t) ≡ true
 unfolding every_left residue_by
-residue_narrows full F.Absent t h = refl
-residue_narrows full (F.Known (Equal k w)) t h = equal_narrows full k w t h
-residue_narrows full (F.Known (Differs k w)) t h = differs_keeps (narrows t) k w t (narrows_refl full t h)
-residue_narrows full (F.Known (AtMost b)) t h = at_most_keeps (narrows t) b t (narrows_refl full t h)
-residue_narrows full (F.Known (AtLeast b)) t h = at_least_keeps (narrows t) full b t (narrows_refl full t h)
+residue_narrows full None t h = refl
+residue_narrows full (Some (Equal k w)) t h = equal_narrows full k w t h
+residue_narrows full (Some (Differs k w)) t h = differs_keeps (narrows t) k w t (narrows_refl full t h)
+residue_narrows full (Some (AtMost b)) t h = at_most_keeps (narrows t) b t (narrows_refl full t h)
+residue_narrows full (Some (AtLeast b)) t h = at_least_keeps (narrows t) full b t (narrows_refl full t h)
 
 well_left_lem : (full : ℕ) (d : Residue) → every_left (well_formed full) d ≡ well_left full d
 unfolding every_left well_left
@@ -232,7 +230,7 @@ well_left_lem full False = refl
 well_left_lem full (Left u) = refl
 
 -- So it is well formed.
-pub residue_well : (full : ℕ) (k : Fact) (t : Test) → well_formed full t ≡ true → well_left full (residue_by full k t) ≡ true
+pub residue_well : (full : ℕ) (k : Option Test) (t : Test) → well_formed full t ≡ true → well_left full (residue_by full k t) ≡ true
 residue_well full k t h =
     sym (well_left_lem full (residue_by full k t))
     ∙ every_more (narrows t) (well_formed full) (residue_by full k t) (λ u. narrows_well full t u h) (residue_narrows full k t h)

@@ -1,5 +1,5 @@
 -- What a question's outcome gives: a fact that is so, a well-formed one, and one that settles the question itself.
-use Rattle.std.specs.Prelude.{ℕ, ◌+◌, ◌-◌, ◌≤◌, ◌≡◌, refl, Bool, true, false, not, eqb, leb}
+use Rattle.std.specs.Prelude.{ℕ, ◌+◌, ◌-◌, ◌≤◌, ◌≡◌, refl, Bool, true, false, not, eqb, leb, Option, None, Some}
 use Rattle.std.proofs.Common.{ap, arith, leb-true, leb-false, lt-ltb, le-leb, ne_eqb, eq-eqb}
 use Rattle.std.specs.Int.Bits.{bit_and, and_self}
 use Rattle.std.proofs.lemmas.Bool.{eqb-false, lt-leb, not-false}
@@ -14,17 +14,13 @@ use Rattle.residue.specs.laws.Bits.{outside_self}
 use Rattle.residue.specs.laws.Lines.{masked}
 use Rattle.residue.specs.declared.Test.{Test}
 use Rattle.residue.specs.declared.Test.TheVariants.{Equal, Differs, AtMost, AtLeast}
-use Rattle.residue.specs.declared.Reading.{Reading}
-use Rattle.residue.specs.declared.Reading.TheVariants as R
-use Rattle.residue.specs.declared.Fact.{Fact}
-use Rattle.residue.specs.declared.Fact.TheVariants as F
 use Rattle.residue.specs.declared.Outcome.{Outcome}
 use Rattle.residue.specs.declared.Outcome.TheVariants as O
 use Rattle.residue.specs.declared.Residue.{Residue}
 
 -- ---- the fact is so
 
-fails_so : (full : ℕ) (t : Test) (x : ℕ) → x ≤ full → holds t x ≡ false → is_so (fails_fact full t) (R.Value x) ≡ true
+fails_so : (full : ℕ) (t : Test) (x : ℕ) → x ≤ full → holds t x ≡ false → is_so (fails_fact full t) (Some x) ≡ true
 unfolding is_so fails_fact holds
 fails_so full (Equal m v) x hx e = ap not e
 fails_so full (Differs m v) x hx e = not-false (eqb (bit_and x m) v) e
@@ -36,11 +32,11 @@ fails_so full (AtLeast c) x hx e =
     rw (ne_eqb c 0 (λ (z : c ≡ 0). omega arith)) (le-leb x (c - 1) (omega arith))
 
 -- What a question comes to at a reading gives a fact that is so of the reading.
-pub outcome_fact_so : (full : ℕ) (t : Test) (r : Reading) → in_width full r ≡ true → is_so (fact_of full (outcome_of t r) t) r ≡ true
+pub outcome_fact_so : (full : ℕ) (t : Test) (r : Option ℕ) → in_width full r ≡ true → is_so (fact_of full (outcome_of t r) t) r ≡ true
 unfolding is_so fact_of outcome_of in_width
-outcome_fact_so full t R.Absent h = refl
-outcome_fact_so full t (R.Value x) h =
-    by_cond (λ (o : Outcome). is_so (fact_of full o t) (R.Value x) ≡ true) (holds t x) (λ e. e) (fails_so full t x (leb-true x full h))
+outcome_fact_so full t None h = refl
+outcome_fact_so full t (Some x) h =
+    by_cond (λ (o : Outcome). is_so (fact_of full o t) (Some x) ≡ true) (holds t x) (λ e. e) (fails_so full t x (leb-true x full h))
 
 -- ---- the fact is well formed
 
@@ -49,9 +45,9 @@ unfolding well_known fails_fact well_formed
 fails_well full (Equal m v) h = h
 fails_well full (Differs m v) h = h
 fails_well full (AtMost c) h =
-    by_cond (λ (k : Fact). well_known full k ≡ true) (leb full c) (λ _. refl) (λ e. le-leb (c + 1) full (omega (arith, leb-false full c e)))
+    by_cond (λ (k : Option Test). well_known full k ≡ true) (leb full c) (λ _. refl) (λ e. le-leb (c + 1) full (omega (arith, leb-false full c e)))
 fails_well full (AtLeast c) h =
-    by_cond (λ (k : Fact). well_known full k ≡ true) (eqb c 0) (λ _. refl) (λ _. le-leb (c - 1) full (omega (arith, leb-true c full h)))
+    by_cond (λ (k : Option Test). well_known full k ≡ true) (eqb c 0) (λ _. refl) (λ _. le-leb (c - 1) full (omega (arith, leb-true c full h)))
 
 pub fact_well : (full : ℕ) (o : Outcome) (t : Test) → well_formed full t ≡ true → well_known full (fact_of full o t) ≡ true
 unfolding well_known fact_of
@@ -83,7 +79,7 @@ differs_own full m v =
     by_cond (λ (d : Residue). is_settled d ≡ true) (eqb m full) (λ _. settled_settled (holds (Differs m v) v))
     (λ _. rw (eq-eqb (bit_and v m) (bit_and v m) refl, eq-eqb (outside m m) 0 (outside_self m)))
 
-holds_own : (full : ℕ) (t : Test) → well_formed full t ≡ true → is_settled (residue_by full (F.Known t) t) ≡ true
+holds_own : (full : ℕ) (t : Test) → well_formed full t ≡ true → is_settled (residue_by full (Some t) t) ≡ true
 unfolding is_settled well_formed residue_by from_differs from_at_most from_at_least
 holds_own full (Equal m v) h = equal_own full m v
 holds_own full (Differs m v) h = rw (covers_self full m v h)
@@ -95,10 +91,10 @@ unfolding is_settled well_formed residue_by fails_fact from_differs from_at_most
 fails_own full (Equal m v) h = rw (covers_self full m v h)
 fails_own full (Differs m v) h = differs_own full m v
 fails_own full (AtMost c) h =
-    by_cond (λ (k : Fact). is_settled (residue_by full k (AtMost c)) ≡ true) (leb full c) (λ _. refl)
+    by_cond (λ (k : Option Test). is_settled (residue_by full k (AtMost c)) ≡ true) (leb full c) (λ _. refl)
     (λ _. rw (lt-ltb c (c + 1) (omega arith)))
 fails_own full (AtLeast c) h =
-    by_cond (λ (k : Fact). is_settled (residue_by full k (AtLeast c)) ≡ true) (eqb c 0) (λ _. refl)
+    by_cond (λ (k : Option Test). is_settled (residue_by full k (AtLeast c)) ≡ true) (eqb c 0) (λ _. refl)
     (λ e. let z = eqb-false c 0 e in rw (lt-ltb (c - 1) c (omega arith)))
 
 -- Whatever a question comes to, nothing is left of it.

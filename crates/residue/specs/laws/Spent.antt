@@ -1,5 +1,5 @@
 -- A question is never asked twice: whatever it came to, no test that is left asks all of it again, and no later residue does.
-use Rattle.std.specs.Prelude.{ℕ, ◌+◌, ◌-◌, ◌<◌, ◌≡◌, true, false, ◌&&◌, eqb, leb, ltb}
+use Rattle.std.specs.Prelude.{ℕ, ◌+◌, ◌-◌, ◌<◌, ◌≡◌, true, false, ◌&&◌, eqb, leb, ltb, Option, Some}
 use Rattle.std.proofs.Math.Path.{refl, ap}
 use Rattle.std.proofs.Common.{sym, ◌∙◌, arith}
 use Rattle.std.proofs.Math.Bool.{not}
@@ -20,8 +20,6 @@ use Rattle.residue.specs.laws.Questions.{covers_self}
 use Rattle.residue.specs.laws.Narrowing.{every_more, keep, settled_every, so_fewer, narrows_case, same_test_eq, residue_narrows}
 use Rattle.residue.specs.declared.Test.{Test}
 use Rattle.residue.specs.declared.Test.TheVariants.{Equal, Differs, AtMost, AtLeast}
-use Rattle.residue.specs.declared.Fact.{Fact}
-use Rattle.residue.specs.declared.Fact.TheVariants as F
 use Rattle.residue.specs.declared.Outcome.{Outcome}
 use Rattle.residue.specs.declared.Outcome.TheVariants as O
 use Rattle.residue.specs.declared.Residue.{Residue}
@@ -107,13 +105,13 @@ unfolding every_left spent repeats well_formed residue_by fails_fact
 fails_spent full (Equal k w) t h = differs_spent k w t
 fails_spent full (Differs k w) t h = equal_spent k w full (masked full k w h).some t
 fails_spent full (AtMost c) t h =
-    by_cond (λ (k : Fact). every_left (spent (AtMost c)) (residue_by full k t) ≡ true) (leb full c) (λ _. refl)
+    by_cond (λ (k : Option Test). every_left (spent (AtMost c)) (residue_by full k t) ≡ true) (leb full c) (λ _. refl)
     (λ _. above_spent c full (c + 1) (omega arith) t)
 fails_spent full (AtLeast c) t h =
-    by_cond (λ (k : Fact). every_left (spent (AtLeast c)) (residue_by full k t) ≡ true) (eqb c 0) (λ _. refl)
+    by_cond (λ (k : Option Test). every_left (spent (AtLeast c)) (residue_by full k t) ≡ true) (eqb c 0) (λ _. refl)
     (λ e. let z = eqb-false c 0 e in below_spent c (c - 1) (omega arith) t)
 
-holds_spent : (full : ℕ) (q t : Test) → well_formed full q ≡ true → every_left (spent q) (residue_by full (F.Known q) t) ≡ true
+holds_spent : (full : ℕ) (q t : Test) → well_formed full q ≡ true → every_left (spent q) (residue_by full (Some q) t) ≡ true
 unfolding spent repeats well_formed residue_by
 holds_spent full (Equal k w) t h = equal_spent k w full (masked full k w h).some t
 holds_spent full (Differs k w) t h = differs_spent k w t
@@ -157,7 +155,7 @@ spent_narrows q t u h e =
     ap not (never (repeats q u) (λ r. false≢true (sym (not-true (repeats q t) e) ∙ narrows_repeats q t u h r)))
 
 -- A fact leaves of a test that does not ask all of q none that does.
-pub spent_stays : (full : ℕ) (k : Fact) (q t : Test) → well_formed full t ≡ true → spent q t ≡ true → every_left (spent q) (residue_by full k t) ≡ true
+pub spent_stays : (full : ℕ) (k : Option Test) (q t : Test) → well_formed full t ≡ true → spent q t ≡ true → every_left (spent q) (residue_by full k t) ≡ true
 spent_stays full k q t h e = every_more (narrows t) (spent q) (residue_by full k t) (λ u r. spent_narrows q t u r e) (residue_narrows full k t h)
 
 -- ---- so it is not the question
