@@ -27,6 +27,7 @@ USE = re.compile(r"^((?:unfoldable |pub |ghost )*)use ([^\s{;]+?)(?:(?:\.|::)\{(
 HEAD = re.compile(rf"((?:unfoldable |abbrev |axiom |pub )*)(record |data |ruleset )?({NAME})(?: \{{[^}}]*\}})?( :)?")
 LABEL = re.compile(rf"(?:^ *(?:pub )?|(?<=[{{;,]) *){NAME} (?=[:=](?:\s|$))|(?<=[({{])(?:{NAME} )+(?=:\s)", re.M)
 UNREAD = re.compile(r"(unfoldable |abbrev )*mutual\b")
+IMPL = re.compile(r"impl(?:<[^{]*?>)? (?:([\w:]+(?:<[^{]*?>)?) for )?([A-Za-z]\w*)[^{]*\{$")
 PROGRAM = re.compile(r'(pub )?(?:extern "C" )?(enum|struct|type|const|fn) (\w+)')
 
 
@@ -136,16 +137,34 @@ class File:
             item.last = n
 
     def read_program(self):
-        item = None
+        """Reads the items of a program, methods under their type's name too. Of a trait's block what its ghost members say counts as stated."""
+        item, owner, block, ghosts = None, "", None, False
         for n, line in enumerate(self.code, 1):
-            if head := PROGRAM.match(line):
-                item = self.items[head[3]] = Item(self, head[3], "call" if head[2] == "fn" else "type", bool(head[1]), n)
-            if item and line.strip():
-                item.last = n
-                if item.kind == "call" and item.stated is None and re.match(r"\{|\).*\{$|(pub |extern |fn ).*\{$", line):
-                    item.stated = n - 1 if line.startswith("{") else n
-                if line.startswith("}") or line.endswith(";") and not line.startswith(" "):
-                    item = None
+            if head := IMPL.match(line):
+                owner, trait = f"{head[2]}::", head[1]
+                block = Item(self, line.rstrip(" {"), "call", True, n) if trait else None
+                if block:
+                    self.items[block.name], block.stated, ghosts = block, n, True
+            elif owner and line.startswith("}"):
+                item, owner, block = None, "", None
+            elif block:
+                block.last = n if line.strip() else block.last
+                ghosts = ghosts and not re.match(r" +(#|fn |unsafe |type )", line)
+                block.stated = block.last if ghosts else block.stated
+            else:
+                item = self.read_line(n, line[4:] if owner else line, owner, item)
+
+    def read_line(self, n, line, owner, item):
+        """The item that goes on behind line n."""
+        if head := PROGRAM.match(line):
+            name = owner + head[3]
+            item = self.items[name] = Item(self, name, "call" if head[2] == "fn" else "type", bool(head[1]), n)
+        if not item or not line.strip():
+            return item
+        item.last = n
+        if item.kind == "call" and item.stated is None and re.match(r"\{|\).*\{$|(pub |extern |fn ).*\{$", line):
+            item.stated = n - 1 if line.startswith("{") else n
+        return None if line.startswith("}") or line.endswith(";") and not line.startswith(" ") else item
 
 
 FILES = {}
