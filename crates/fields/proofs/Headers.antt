@@ -1,18 +1,16 @@
 -- What a frame has, by what the arms of the code tell.
 -- Assumes nothing.
+use Rattle.std.specs.Prelude.{Option, None, Some}
 use Prim.Native.Nat.{ℕ, ◌*◌, ◌/◌, ◌%◌, ◌≤◌}
 use native.Mathlib.Omega.{arith}
-use mathlib.Core.Path.{◌≡◌, refl, sym, ◌∙◌}
+use mathlib.Core.Path.{◌≡◌, refl, sym, subst, ◌∙◌}
 use mathlib.Core.Bool.{true, false, true≢false, ◌&&◌}
 use mathlib.Core.List.{List}
 use borrow.Author.Tests.{leb-true, le-leb, eq-eqb}
 use lib.Dec.{leb, eqb}
 use lib.ListN.{length}
 use Rattle.residue.specs.laws.Choice.{by_cond, never, both, first, second}
-use Rattle.residue.specs.declared.Reading.{Reading}
-use Rattle.residue.specs.declared.Reading.TheVariants.{Absent, Value}
-use Rattle.fields.specs.declared.ipv4.Packet.{Packet}
-use Rattle.fields.specs.declared.ipv4.Packet.TheVariants.{Nothing, Whole}
+use Rattle.fields.specs.declared.ipv4.Part.{Part}
 use Rattle.fields.specs.Bytes.{byte, two, part}
 use Rattle.fields.specs.Ethernet.{ip_start, ether_type, ethernet}
 use Rattle.fields.specs.Ipv4.{internet, version, header_length, transport_start, transport_end, transport}
@@ -20,15 +18,15 @@ use Rattle.fields.specs.inner.Parts.{type_in, packet_in}
 use Rattle.fields.proofs.laws.Ipv4.{internet_lengths}
 
 -- What the arms of a reading and of a packet tell.
-pub is_type : (f : List ℕ) {n : ℕ} → type_in f ≡ Value n → (ethernet f ≡ true) × (ether_type f ≡ n)
+pub is_type : (f : List ℕ) {n : ℕ} → type_in f ≡ Some n → (ethernet f ≡ true) × (ether_type f ≡ n)
 is_type f {n} =
-    by_cond (λ (r : Reading). r ≡ Value n → (ethernet f ≡ true) × (ether_type f ≡ n)) (ethernet f)
+    by_cond (λ (r : Option ℕ). r ≡ Some n → (ethernet f ≡ true) × (ether_type f ≡ n)) (ethernet f)
     (λ h e. (h, cc))
     (λ h e. let z : ◌≡◌ {A = ℕ} 0 1 = cc in absurd (omega arith))
 
-pub no_type : (f : List ℕ) → type_in f ≡ Absent → ethernet f ≡ false
+pub no_type : (f : List ℕ) → type_in f ≡ None → ethernet f ≡ false
 no_type f =
-    by_cond (λ (r : Reading). r ≡ Absent → ethernet f ≡ false) (ethernet f)
+    by_cond (λ (r : Option ℕ). r ≡ None → ethernet f ≡ false) (ethernet f)
     (λ h e. let z : ◌≡◌ {A = ℕ} 0 1 = cc in absurd (omega arith))
     (λ h e. h)
 
@@ -71,18 +69,17 @@ packet_at f has =
           (λ h. record { whole = known.whole; order = omega arith; inside = omega arith });
     }
 
-pub is_packet : (f : List ℕ) {start end : ℕ} → packet_in f ≡ Whole start end → PacketAt f start end
-is_packet f {start} {end} =
-    by_cond (λ (x : Packet). x ≡ Whole start end → PacketAt f start end) (internet f)
+pub is_packet : (f : List ℕ) {p : Part} → packet_in f ≡ Some p → PacketAt f p.start p.end
+is_packet f {p} =
+    by_cond (λ (x : Option Part). x ≡ Some p → PacketAt f p.start p.end) (internet f)
     (λ h e.
-    let starts : transport_start f ≡ start = cc in
-    let ends : transport_end f ≡ end = cc in
-    rw (starts, ends) at (packet_at f h))
+    let same : ◌≡◌ {A = Part} (record { start = transport_start f; end = transport_end f }) p = cc in
+    subst (λ (q : Part). PacketAt f q.start q.end) same (packet_at f h))
     (λ h e. let z : ◌≡◌ {A = ℕ} 0 1 = cc in absurd (omega arith))
 
-pub no_packet : (f : List ℕ) → packet_in f ≡ Nothing → internet f ≡ false
+pub no_packet : (f : List ℕ) → packet_in f ≡ None → internet f ≡ false
 no_packet f =
-    by_cond (λ (x : Packet). x ≡ Nothing → internet f ≡ false) (internet f)
+    by_cond (λ (x : Option Part). x ≡ None → internet f ≡ false) (internet f)
     (λ h e. let z : ◌≡◌ {A = ℕ} 0 1 = cc in absurd (omega arith))
     (λ h e. h)
 

@@ -4,11 +4,9 @@
 --   is_present r      a reading is a value
 --   Possible f p n   some such frame has field n
 --   SeenAs f p n s   s is what reading field n answers: its value, none or cut
-use Rattle.std.specs.Prelude.{ℕ, ◌+◌, ◌≤◌, ◌<◌, ◌≡◌, Bool, true, false, List, length}
-use Rattle.residue.specs.declared.Reading.{Reading}
-use Rattle.residue.specs.declared.Reading.TheVariants.{Absent, Value}
+use Rattle.std.specs.Prelude.{ℕ, ◌+◌, ◌≤◌, ◌<◌, ◌≡◌, Bool, true, false, List, length, Option, None, Some}
 use Rattle.fields.specs.declared.Seen.{Seen}
-use Rattle.fields.specs.declared.Seen.TheVariants.{Has, None, Cut}
+use Rattle.fields.specs.declared.Seen.TheVariants as S
 use Rattle.fields.specs.Bytes.{byte, Bytes}
 use Rattle.fields.specs.Ethernet.{ip_start}
 use Rattle.fields.specs.Fields.{field}
@@ -21,14 +19,14 @@ pub record Grows (f g : List ℕ) : Type 0 where
   pub longer : length f ≤ length g
   pub begins : (i : ℕ) → i < length f → (i ≡ length_at → ⊥) → (i ≡ length_at + 1 → ⊥) → byte g i ≡ byte f i
 
-unfoldable pub is_present : Reading → Bool
-is_present Absent = false
-is_present (Value x) = true
+unfoldable pub is_present : Option ℕ → Bool
+is_present None = false
+is_present (Some x) = true
 
 abbrev pub Possible : List ℕ → ℕ → ℕ → Type 0
 Possible f p n = (g : List ℕ) × Grows f g × (is_present (field g p n) ≡ true)
 
 unfoldable pub SeenAs : List ℕ → ℕ → ℕ → Seen → Type 0
-SeenAs f p n (Has x) = field f p n ≡ Value x
-SeenAs f p n Cut = (field f p n ≡ Absent) × Possible f p n
-SeenAs f p n None = (field f p n ≡ Absent) × (Possible f p n → ⊥)
+SeenAs f p n (S.Has x) = field f p n ≡ Some x
+SeenAs f p n S.Cut = (field f p n ≡ None) × Possible f p n
+SeenAs f p n S.None = (field f p n ≡ None) × (Possible f p n → ⊥)

@@ -2,9 +2,7 @@
 --   puts f p       the fields that the frame f has, which came in at box port p
 --   readings f p   all fields, in the order of their numbers
 --   field f p n    field n; absent above the last number
-use Rattle.std.specs.Prelude.{ℕ, List, [], ◌∷◌, ◌++◌, get_or, replicate}
-use Rattle.residue.specs.declared.Reading.{Reading}
-use Rattle.residue.specs.declared.Reading.TheVariants.{Absent}
+use Rattle.std.specs.Prelude.{ℕ, List, [], ◌∷◌, ◌++◌, get_or, replicate, Option, None}
 use Rattle.fields.specs.Widths.{field_count}
 use Rattle.fields.specs.Puts.{Put, only_if, put_all}
 use Rattle.fields.specs.Ethernet.{ether_type, ethernet}
@@ -17,8 +15,8 @@ puts f p =
     only_if (ethernet f) ((0, ether_type f) ∷ []) ++
     only_if (internet f) (internet_puts f ++ transport_puts (protocol f) (transport f))
 
-unfoldable pub readings : List ℕ → ℕ → List Reading
-readings f p = put_all (puts f p) (replicate field_count Absent)
+unfoldable pub readings : List ℕ → ℕ → List (Option ℕ)
+readings f p = put_all (puts f p) (replicate field_count None)
 
-unfoldable pub field : List ℕ → ℕ → ℕ → Reading
-field f p n = get_or (readings f p) n Absent
+unfoldable pub field : List ℕ → ℕ → ℕ → Option ℕ
+field f p n = get_or (readings f p) n None

@@ -4,10 +4,8 @@
 --   present_set f p     the set of the fields that the frame f has
 --   reading_at s vs n   field n by such a set and such words; absent above the last number
 --   Header             what reading a header answers, and the words it leaves
-use Rattle.std.specs.Prelude.{ℕ, ◌^◌, ◌≡◌, cond, ◌&&◌, List, [], ◌∷◌, ltb, get_or, set}
+use Rattle.std.specs.Prelude.{ℕ, ◌^◌, ◌≡◌, cond, ◌&&◌, List, [], ◌∷◌, ltb, get_or, set, Option, None, Some}
 use Rattle.std.specs.Int.Bits.{bit_or}
-use Rattle.residue.specs.declared.Reading.{Reading}
-use Rattle.residue.specs.declared.Reading.TheVariants.{Absent, Value}
 use Rattle.sets.specs.Sets.{member}
 use Rattle.fields.specs.Widths.{field_count}
 use Rattle.fields.specs.Puts.{Put}
@@ -24,8 +22,8 @@ filled ((n, x) ∷ ps) old = filled ps (set old n x)
 unfoldable pub present_set : List ℕ → ℕ → ℕ
 present_set f p = noted (puts f p) 0
 
-unfoldable pub reading_at : ℕ → List ℕ → ℕ → Reading
-reading_at s vs n = cond (ltb n field_count && member n s) (Value (get_or vs n 0)) Absent
+unfoldable pub reading_at : ℕ → List ℕ → ℕ → Option ℕ
+reading_at s vs n = cond (ltb n field_count && member n s) (Some (get_or vs n 0)) None
 
 pub record Header (f : List ℕ) (p : ℕ) (old new : List ℕ) (r : ℕ) : Type 0 where
   pub set : r ≡ present_set f p

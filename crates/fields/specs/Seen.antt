@@ -10,11 +10,9 @@
 --   seen f p n      field n; none above the last number
 --   is_cut s         an answer is cut
 --   reading_of s     the reading of document 01, for which none and cut are one
-use Rattle.std.specs.Prelude.{ℕ, ◌+◌, ◌/◌, ◌%◌, Bool, true, false, cond, ◌&&◌, ◌||◌, List, [], ◌∷◌, leb, eqb, length, get_or}
-use Rattle.residue.specs.declared.Reading.{Reading}
-use Rattle.residue.specs.declared.Reading.TheVariants.{Absent, Value}
+use Rattle.std.specs.Prelude.{ℕ, ◌+◌, ◌/◌, ◌%◌, Bool, true, false, cond, ◌&&◌, ◌||◌, List, [], ◌∷◌, leb, eqb, length, get_or, Option, None, Some}
 use Rattle.fields.specs.declared.Seen.{Seen}
-use Rattle.fields.specs.declared.Seen.TheVariants.{Has, None, Cut}
+use Rattle.fields.specs.declared.Seen.TheVariants as S
 use Rattle.fields.specs.Bytes.{byte}
 use Rattle.fields.specs.Ethernet.{ip_start}
 use Rattle.fields.specs.Transport.{tcp, udp, icmp}
@@ -53,19 +51,19 @@ chances f =
 unfoldable pub possible : List ℕ → ℕ → Bool
 possible f n = get_or (chances f) n false
 
-unfoldable pub seen_of : Bool → Reading → Seen
-seen_of b (Value x) = Has x
-seen_of b Absent = cond b Cut None
+unfoldable pub seen_of : Bool → Option ℕ → Seen
+seen_of b (Some x) = S.Has x
+seen_of b None = cond b S.Cut S.None
 
 unfoldable pub seen : List ℕ → ℕ → ℕ → Seen
 seen f p n = seen_of (possible f n) (field f p n)
 
 unfoldable pub is_cut : Seen → Bool
-is_cut (Has x) = false
-is_cut None = false
-is_cut Cut = true
+is_cut (S.Has x) = false
+is_cut S.None = false
+is_cut S.Cut = true
 
-unfoldable pub reading_of : Seen → Reading
-reading_of (Has x) = Value x
-reading_of None = Absent
-reading_of Cut = Absent
+unfoldable pub reading_of : Seen → Option ℕ
+reading_of (S.Has x) = Some x
+reading_of S.None = None
+reading_of S.Cut = None

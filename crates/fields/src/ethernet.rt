@@ -4,10 +4,9 @@ ghost use Rattle.fields.specs.Seen.{may_be_type};
 ghost use Rattle.fields.specs.inner.Parts.{type_in, Begins};
 
 use crate::bytes::{byte_at, two_at};
-use crate::ipv4::Packet;
+use crate::ipv4::Part;
 use crate::put::put;
 use crate::{BOX_PORT, Values, ipv4};
-use residue::Reading;
 
 // The field of this header, by its number.
 pub const ETHER_TYPE: u32 = 0;
@@ -19,24 +18,24 @@ pub const IP_START: usize = 14;
 const LEAST_TYPE: u32 = 1536;
 
 // Field 0.
-fn type_in(frame: &[u8]) -> Reading
+fn type_in(frame: &[u8]) -> Option<u32>
     ensures { result ≡ type_in frame.now }
 {
     if frame.len() < IP_START {
-        return Reading::Absent;
+        return None;
     }
     let number = two_at(frame, TYPE_AT);
     if number < LEAST_TYPE {
-        return Reading::Absent;
+        return None;
     }
-    Reading::Value(number)
+    Some(number)
 }
 
 // What the first step of reading a header leaves: the set so far, and the packet in the frame.
-#[derive(Clone, Copy)]
+#[derive(Clone, Copy, Debug, PartialEq, Eq)]
 pub struct Begun {
     pub present: u32,
-    pub packet: Packet,
+    pub packet: Option<Part>,
 }
 
 // The first step: the box port, and field 0 if the frame has it.
@@ -44,10 +43,10 @@ pub fn read_ethernet(frame: &[u8], port: u8, values: &mut Values) -> Begun
     ensures { Begins frame.now port values.old result values.new }
 {
     let present = put(BOX_PORT, port as u32, 0, values);
-    let Reading::Value(ether_type) = type_in(frame) else {
+    let Some(ether_type) = type_in(frame) else {
         return Begun {
             present,
-            packet: Packet::Nothing,
+            packet: None,
         };
     };
     // Looked for before the next store, so that the compiler need not load again what was just read.

@@ -47,11 +47,11 @@ const DESTINATION: u32 = 7;
 // All of them, as a set.
 pub const HEADER_SET: u32 = (2 << DESTINATION) - (1 << TYPE_OF_SERVICE);
 
-// A packet that is whole, with the start and the end of its transport part.
-#[derive(Clone, Copy)]
-pub enum Packet {
-    Nothing,
-    Whole(usize, usize),
+// Where the transport part of a whole packet starts and ends.
+#[derive(Clone, Copy, Debug, PartialEq, Eq)]
+pub struct Part {
+    pub start: usize,
+    pub end: usize,
 }
 
 // Whether this can be the first byte of a header: version 4 and a header length of five fours at the least, which is one range.
@@ -62,34 +62,34 @@ fn is_first(byte: u32) -> bool
 }
 
 // The packet in a frame.
-pub fn packet_in(frame: &[u8]) -> Packet
+pub fn packet_in(frame: &[u8]) -> Option<Part>
     ensures { result ≡ packet_in frame.now }
 {
     if frame.len() < LEAST_FRAME {
-        return Packet::Nothing;
+        return None;
     }
     if two_at(frame, TYPE_AT) != IPV4 {
-        return Packet::Nothing;
+        return None;
     }
     let first = byte_at(frame, IP_START);
     if !is_first(first) {
-        return Packet::Nothing;
+        return None;
     }
     let header = 4 * (first % 16) as usize;
     let total = two_at(frame, TOTAL_AT) as usize;
     if total < header {
-        return Packet::Nothing;
+        return None;
     }
     let start = IP_START + header;
     let end = IP_START + total;
     if frame.len() < end {
-        return Packet::Nothing;
+        return None;
     }
     // Only the fragment with offset 0 begins with the transport header.
     if two_at(frame, FRAGMENT_AT) % 8192 != 0 {
-        return Packet::Whole(start, start);
+        return Some(Part { start, end: start });
     }
-    Packet::Whole(start, end)
+    Some(Part { start, end })
 }
 
 // Whether a frame that begins with these bytes could have this header. Its total length may be any.
@@ -136,24 +136,24 @@ fn fill_header(frame: &[u8], present: u32, values: &mut Values) -> u32
 }
 
 // The second step of reading a header: the packet's own fields, if the frame has one.
-pub fn read_internet(frame: &[u8], packet: Packet, present: u32, values: &mut Values) -> u32
+pub fn read_internet(frame: &[u8], packet: Option<Part>, present: u32, values: &mut Values) -> u32
     requires { packet ≡ packet_in frame.now }
     ensures { Added (only_if (internet frame.now) (internet_puts frame.now)) present values.old result values.new }
 {
-    let Packet::Whole(_, _) = packet else {
+    let Some(_) = packet else {
         return present;
     };
     fill_header(frame, present, values)
 }
 
 // The third step: the fields of its transport part, which is read as a part of the frame.
-pub fn read_transport(frame: &[u8], packet: Packet, present: u32, values: &mut Values) -> u32
+pub fn read_transport(frame: &[u8], packet: Option<Part>, present: u32, values: &mut Values) -> u32
     requires { packet ≡ packet_in frame.now }
     ensures { Added (part_puts frame.now) present values.old result values.new }
 {
-    let Packet::Whole(start, end) = packet else {
+    let Some(part) = packet else {
         return present;
     };
     let protocol = byte_at(frame, PROTOCOL_AT);
-    transport::fill(&frame[start..end], protocol, present, values)
+    transport::fill(&frame[part.start..part.end], protocol, present, values)
 }

@@ -11,7 +11,6 @@ ghost use Rattle.fields.specs.inner.Parts.{lacking};
 
 use bytes::byte_at;
 use ethernet::ETHER_TYPE;
-use residue::Reading;
 
 mod bytes;
 mod ethernet;
@@ -37,7 +36,7 @@ const BOX_PORT: u32 = 13;
 pub type Values = [u32; FIELDS];
 
 // What reading a field answers: its value; none; or cut, where a frame that goes on could have it.
-#[derive(Clone, Copy)]
+#[derive(Clone, Copy, Debug, PartialEq, Eq)]
 pub enum Seen {
     Has(u32),
     None,
@@ -107,23 +106,23 @@ pub fn cut_set(frame: &[u8], present: u32) -> u32
 }
 
 // Field `number` by a header that was read: a bit of the set and a word.
-pub fn reading_at(present: u32, values: &Values, number: u32) -> Reading
+pub fn reading_at(present: u32, values: &Values, number: u32) -> Option<u32>
     ensures { result ≡ reading_at present values.now number }
 {
     if LAST_FIELD < number {
-        return Reading::Absent;
+        return None;
     }
     if (present >> number) % 2 == 1 {
-        return Reading::Value(values[number as usize]);
+        return Some(values[number as usize]);
     }
-    Reading::Absent
+    None
 }
 
 // Field `number` by a header that was read, with none and cut apart.
 fn seen_at(present: u32, cut: u32, values: &Values, number: u32) -> Seen
     ensures { result ≡ seen_at present cut values.now number }
 {
-    let Reading::Value(x) = reading_at(present, values, number) else {
+    let Some(x) = reading_at(present, values, number) else {
         if LAST_FIELD < number {
             return Seen::None;
         }

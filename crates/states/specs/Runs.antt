@@ -6,24 +6,23 @@
 --   follow fs os s     the state after the outcomes os, whatever frame gave them
 --   asks a             the question a asks something
 --   asks_all fs os s    each of the outcomes os answers a question of the state that it meets
-use Rattle.std.specs.Prelude.{ℕ, zero, suc, ◌+◌, Bool, true, false, ◌&&◌, List, [], ◌∷◌}
+use Rattle.std.specs.Prelude.{ℕ, zero, suc, ◌+◌, Bool, true, false, ◌&&◌, List, [], ◌∷◌, Option}
 use Rattle.residue.specs.Facts.{outcome_of}
-use Rattle.residue.specs.declared.Reading.{Reading}
 use Rattle.residue.specs.declared.Outcome.{Outcome}
 use Rattle.lists.specs.Filters.{Item, Filter}
 use Rattle.states.specs.States.{State, Question, nothing, ask, question_of, step_by, step}
 
-unfoldable pub way_of : (ℕ → Reading) → Item → Outcome
+unfoldable pub way_of : (ℕ → Option ℕ) → Item → Outcome
 way_of r q = outcome_of q.test (r q.field)
 
-unfoldable pub advance_at : List Filter → (ℕ → Reading) → Question → State → State
+unfoldable pub advance_at : List Filter → (ℕ → Option ℕ) → Question → State → State
 advance_at fs r nothing s = s
 advance_at fs r (ask q) s = step_by fs (way_of r q) q s
 
-unfoldable pub advance : List Filter → (ℕ → Reading) → State → State
+unfoldable pub advance : List Filter → (ℕ → Option ℕ) → State → State
 advance fs r s = advance_at fs r (question_of s) s
 
-unfoldable pub run : List Filter → (ℕ → Reading) → ℕ → State → State
+unfoldable pub run : List Filter → (ℕ → Option ℕ) → ℕ → State → State
 run fs r zero s = s
 run fs r (suc n) s = run fs r n (advance fs r s)
 
@@ -31,7 +30,7 @@ unfoldable pub asked_at : Question → ℕ → ℕ
 asked_at nothing n = 0
 asked_at (ask q) n = n + 1
 
-unfoldable pub asked_in : List Filter → (ℕ → Reading) → ℕ → State → ℕ
+unfoldable pub asked_in : List Filter → (ℕ → Option ℕ) → ℕ → State → ℕ
 asked_in fs r zero s = 0
 asked_in fs r (suc n) s = asked_at (question_of s) (asked_in fs r n (advance fs r s))
 

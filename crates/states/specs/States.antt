@@ -8,10 +8,9 @@
 --   question_of s      the first remaining test of the first filter that has any
 --   step_by fs o q s   the state after the question q came to o
 --   sure, is_out, is_open   of a filter in a state; sure_set, out_set as bit sets
-use Rattle.std.specs.Prelude.{ℕ, ◌+◌, Bool, true, false, cond, not, ◌&&◌, List, [], ◌∷◌, map, ltb, eqb, length, get_or}
+use Rattle.std.specs.Prelude.{ℕ, ◌+◌, Bool, true, false, cond, not, ◌&&◌, List, [], ◌∷◌, map, ltb, eqb, length, get_or, Option}
 use Rattle.residue.specs.Facts.{fact_of}
 use Rattle.residue.specs.Residues.{residue_by}
-use Rattle.residue.specs.declared.Fact.{Fact}
 use Rattle.residue.specs.declared.Outcome.{Outcome}
 use Rattle.residue.specs.declared.Residue.{Residue}
 use Rattle.residue.specs.declared.Residue.TheVariants.{True, False, Left}
@@ -19,6 +18,7 @@ use Rattle.fields.specs.Widths.{full}
 use Rattle.sets.specs.Sets.{set_of, tally, some}
 use Rattle.lists.specs.Filters.{Item, Filter}
 use Rattle.lists.specs.Ranks.{above}
+use Rattle.residue.specs.declared.Test.{Test}
 
 pub data Standing : Type 0 where
   out : Standing
@@ -51,11 +51,11 @@ join n False x = out
 join n (Left u) x = keep (record { field = n; test = u }) x
 
 -- Tests on other fields are unchanged.
-unfoldable pub cut : ℕ → Fact → List Item → Standing
+unfoldable pub cut : ℕ → Option Test → List Item → Standing
 cut n k [] = left []
 cut n k (t ∷ ts) = cond (eqb t.field n) (join n (residue_by (full n) k t.test) (cut n k ts)) (keep t (cut n k ts))
 
-unfoldable pub cut_standing : ℕ → Fact → Standing → Standing
+unfoldable pub cut_standing : ℕ → Option Test → Standing → Standing
 cut_standing n k out = out
 cut_standing n k (left ts) = cut n k ts
 

@@ -3,16 +3,14 @@
 --   seen_as                    what reading a field answers is what the request says
 --   seen_one                   and the request leaves one answer only
 --   seen_reading               without the difference of none and cut it is the reading of document 01
-use Rattle.std.specs.Prelude.{ℕ, ◌<◌, ◌≡◌, Bool, ◌&&◌, ◌||◌, List, leb, length, get_or}
+use Rattle.std.specs.Prelude.{ℕ, ◌<◌, ◌≡◌, Bool, ◌&&◌, ◌||◌, List, leb, length, get_or, Option, None, Some}
 use Rattle.std.proofs.Common.{arith, sym, ◌∙◌, eqb-true}
 use Rattle.std.proofs.Math.Path.{refl}
 use Rattle.std.proofs.Math.Bool.{true, false, true≢false, or-true}
 use Rattle.std.proofs.Math.Dec.{eqb}
 use Rattle.residue.specs.laws.Choice.{either, never, first}
-use Rattle.residue.specs.declared.Reading.{Reading}
-use Rattle.residue.specs.declared.Reading.TheVariants.{Absent, Value}
 use Rattle.fields.specs.declared.Seen.{Seen}
-use Rattle.fields.specs.declared.Seen.TheVariants.{Has, None, Cut}
+use Rattle.fields.specs.declared.Seen.TheVariants as S
 use Rattle.fields.specs.Bytes.{byte, Bytes}
 use Rattle.fields.specs.Transport.{tcp, udp, icmp}
 use Rattle.fields.specs.Fields.{field}
@@ -22,7 +20,7 @@ use Rattle.fields.proofs.laws.Present.{shape, present_at}
 use Rattle.fields.proofs.laws.Longer.{◌also◌, no_more, by_number, longer_so}
 use Rattle.fields.proofs.laws.Grown.{grown, grown_grows, grown_type, grown_internet, grown_carries}
 
-clash : {r : Reading} {x : ℕ} → r ≡ Value x → r ≡ Absent → ⊥
+clash : {r : Option ℕ} {x : ℕ} → r ≡ Some x → r ≡ None → ⊥
 clash {r} {x} h k = let z : ◌≡◌ {A = ℕ} 0 1 = cc in omega arith
 
 could_too : (f : List ℕ) (i : ℕ) (p q : ℕ → Bool) → ((x : ℕ) → p x ≡ true → q x ≡ true) → could f i p ≡ true → could f i q ≡ true
@@ -44,11 +42,11 @@ packet_type f lacks =
     let eight = first c1 c2 (first (c1 && c2) _ h) in
     true≢false (sym (could_too f 12 (λ x. eqb x 8) (λ x. leb 6 x) (λ x e. rw (eqb-true x 8 e)) eight) ∙ lacks))
 
-pub reading_so : (b : Bool) (r : Reading) → reading_of (seen_of b r) ≡ r
+pub reading_so : (b : Bool) (r : Option ℕ) → reading_of (seen_of b r) ≡ r
 unfolding reading_of seen_of
-reading_so b (Value x) = refl
-reading_so true Absent = refl
-reading_so false Absent = refl
+reading_so b (Some x) = refl
+reading_so true None = refl
+reading_so false None = refl
 
 module _ (f : List ℕ) (p : ℕ) where
   pub possible_so : (n : ℕ) → Possible f p n → possible f n ≡ true
@@ -85,11 +83,11 @@ module _ (f : List ℕ) (p : ℕ) where
         (λ h. one 12 (code h)) also
         (λ h. six 13 refl) also no_more)
 
-    as_of : (n : ℕ) (b : Bool) → possible f n ≡ b → (r : Reading) → field f p n ≡ r → SeenAs f p n (seen_of b r)
+    as_of : (n : ℕ) (b : Bool) → possible f n ≡ b → (r : Option ℕ) → field f p n ≡ r → SeenAs f p n (seen_of b r)
     unfolding SeenAs seen_of
-    as_of n b e (Value x) h = h
-    as_of n true e Absent h = (h, so_possible n e)
-    as_of n false e Absent h = (h, λ (some : Possible f p n). true≢false (sym (possible_so n some) ∙ e))
+    as_of n b e (Some x) h = h
+    as_of n true e None h = (h, so_possible n e)
+    as_of n false e None h = (h, λ (some : Possible f p n). true≢false (sym (possible_so n some) ∙ e))
 
     pub seen_as : (n : ℕ) → SeenAs f p n (seen f p n)
     unfolding seen
@@ -97,15 +95,15 @@ module _ (f : List ℕ) (p : ℕ) where
 
   pub seen_one : (n : ℕ) (s s' : Seen) → SeenAs f p n s → SeenAs f p n s' → s ≡ s'
   unfolding SeenAs
-  seen_one n (Has x) (Has y) h k = cc
-  seen_one n (Has x) None h k = absurd (clash h k.0)
-  seen_one n (Has x) Cut h k = absurd (clash h k.0)
-  seen_one n None (Has y) h k = absurd (clash k h.0)
-  seen_one n None None h k = refl
-  seen_one n None Cut h k = absurd (h.1 k.1)
-  seen_one n Cut (Has y) h k = absurd (clash k h.0)
-  seen_one n Cut None h k = absurd (k.1 h.1)
-  seen_one n Cut Cut h k = refl
+  seen_one n (S.Has x) (S.Has y) h k = cc
+  seen_one n (S.Has x) S.None h k = absurd (clash h k.0)
+  seen_one n (S.Has x) S.Cut h k = absurd (clash h k.0)
+  seen_one n S.None (S.Has y) h k = absurd (clash k h.0)
+  seen_one n S.None S.None h k = refl
+  seen_one n S.None S.Cut h k = absurd (h.1 k.1)
+  seen_one n S.Cut (S.Has y) h k = absurd (clash k h.0)
+  seen_one n S.Cut S.None h k = absurd (k.1 h.1)
+  seen_one n S.Cut S.Cut h k = refl
 
   pub seen_reading : (n : ℕ) → reading_of (seen f p n) ≡ field f p n
   unfolding seen

@@ -1,5 +1,5 @@
 -- The set of the fields that are cut: what the code makes of it, where it is empty, and what it tells with the rest of a header.
-use Rattle.std.specs.Prelude.{ℕ, ◌≤◌, ◌<◌, ◌≡◌, Bool, ◌&&◌, ◌||◌, List, ltb, length}
+use Rattle.std.specs.Prelude.{ℕ, ◌≤◌, ◌<◌, ◌≡◌, Bool, ◌&&◌, ◌||◌, List, ltb, length, Option, None, Some}
 use Rattle.std.proofs.Common.{arith, ◌∙◌}
 use Rattle.std.proofs.Math.Path.{refl, ap, sym, fun_ext}
 use Rattle.std.proofs.Math.Bool.{true, false, not, cond, and-true, and-false}
@@ -8,12 +8,10 @@ use borrow.Author.Tests.{le-leb, leb-true, lt-leb, lt-ltb, ltb-false, eqb-true}
 use Rattle.std.proofs.Math.Dec.{leb, eqb}
 use Rattle.std.proofs.Math.ListN.{get_or, get_or-eq_default}
 use Rattle.residue.specs.laws.Choice.{first, second}
-use Rattle.residue.specs.declared.Reading.{Reading}
-use Rattle.residue.specs.declared.Reading.TheVariants.{Absent, Value}
 use Rattle.sets.specs.Sets.{set_of, member, tally}
 use Rattle.sets.specs.laws.Members.{each, less, minus_sets, member_set_of, member_tally, tally_ext}
 use Rattle.fields.specs.declared.Seen.{Seen}
-use Rattle.fields.specs.declared.Seen.TheVariants.{Has, None, Cut}
+use Rattle.fields.specs.declared.Seen.TheVariants as S
 use Rattle.fields.specs.Widths.{field_count}
 use Rattle.fields.specs.Bytes.{byte}
 use Rattle.fields.specs.Ethernet.{ether_type, ethernet}
@@ -30,12 +28,12 @@ use Rattle.fields.proofs.laws.Header.{header_agrees}
 use Rattle.fields.proofs.laws.Ipv4.{internet_lengths}
 use Rattle.fields.proofs.laws.Present.{shape, present_at, present_set_lem}
 
-is_cut_lem : (b : Bool) (r : Reading) → is_cut (seen_of b r) ≡ (b && not (is_present r))
+is_cut_lem : (b : Bool) (r : Option ℕ) → is_cut (seen_of b r) ≡ (b && not (is_present r))
 unfolding is_cut seen_of is_present
-is_cut_lem true (Value x) = refl
-is_cut_lem false (Value x) = refl
-is_cut_lem true Absent = refl
-is_cut_lem false Absent = refl
+is_cut_lem true (Some x) = refl
+is_cut_lem false (Some x) = refl
+is_cut_lem true None = refl
+is_cut_lem false None = refl
 
 module _ (f : List ℕ) (p : ℕ) where
   cut_by : (n : ℕ) → is_cut (seen f p n) ≡ (get_or (chances f) n false && not (get_or (shape f) n false))
@@ -156,7 +154,7 @@ module _ (f : List ℕ) (p : ℕ) where
   possible_beyond n l = get_or-eq_default (chances f) false l
 
   -- Of an absent field the set tells whether it could be there.
-  absent_cut : (n : ℕ) → field f p n ≡ Absent → (b : Bool) → ltb n field_count ≡ b → (b && member n (cut_set f p)) ≡ possible f n
+  absent_cut : (n : ℕ) → field f p n ≡ None → (b : Bool) → ltb n field_count ≡ b → (b && member n (cut_set f p)) ≡ possible f n
   unfolding cut_set seen is_present
   absent_cut n e false l = sym (possible_beyond n (ltb-false n field_count l))
   absent_cut n e true l =
@@ -164,10 +162,10 @@ module _ (f : List ℕ) (p : ℕ) where
       rw (l, is_cut_lem (possible f n) (field f p n), e) (and-true (possible f n))
 
   -- A header that was read once answers for every field what the definition answers, with none and cut apart.
-  told_so : (n : ℕ) (r : Reading) → field f p n ≡ r → seen_of (ltb n field_count && member n (cut_set f p)) r ≡ seen_of (possible f n) r
+  told_so : (n : ℕ) (r : Option ℕ) → field f p n ≡ r → seen_of (ltb n field_count && member n (cut_set f p)) r ≡ seen_of (possible f n) r
   unfolding seen_of
-  told_so n (Value x) e = refl
-  told_so n Absent e = ap (λ (b : Bool). cond b Cut None) (absent_cut n e (ltb n field_count) refl)
+  told_so n (Some x) e = refl
+  told_so n None e = ap (λ (b : Bool). cond b S.Cut S.None) (absent_cut n e (ltb n field_count) refl)
 
   pub seen_agrees : (old : List ℕ) → length old ≡ field_count → (n : ℕ) → seen_at (present_set f p) (cut_set f p) (filled (puts f p) old) n ≡ seen f p n
   unfolding seen_at seen
@@ -178,17 +176,17 @@ pub seen_at_reading : (s c : ℕ) (vs : List ℕ) (n : ℕ) → reading_of (seen
 unfolding seen_at
 seen_at_reading s c vs n = reading_so (ltb n field_count && member n c) (reading_at s vs n)
 
-pub seen_at_cut : (s c : ℕ) (vs : List ℕ) (n : ℕ) → n < field_count → reading_at s vs n ≡ Absent → is_cut (seen_at s c vs n) ≡ member n c
+pub seen_at_cut : (s c : ℕ) (vs : List ℕ) (n : ℕ) → n < field_count → reading_at s vs n ≡ None → is_cut (seen_at s c vs n) ≡ member n c
 unfolding seen_at is_present
 seen_at_cut s c vs n l e =
     is_cut_lem (ltb n field_count && member n c) (reading_at s vs n) ∙ rw (e, lt-ltb n field_count l) (and-true (member n c))
 
 -- A field that has a value is not cut.
-pub value_uncut : (v : Seen) {x : ℕ} → reading_of v ≡ Value x → is_cut v ≡ false
+pub value_uncut : (v : Seen) {x : ℕ} → reading_of v ≡ Some x → is_cut v ≡ false
 unfolding reading_of is_cut
-value_uncut (Has y) e = refl
-value_uncut None e = refl
-value_uncut Cut {x} e = let z : ◌≡◌ {A = ℕ} 0 1 = cc in absurd (omega arith)
+value_uncut (S.Has y) e = refl
+value_uncut S.None e = refl
+value_uncut S.Cut {x} e = let z : ◌≡◌ {A = ℕ} 0 1 = cc in absurd (omega arith)
 
 -- The same of all fields at once.
 pub seen_once :

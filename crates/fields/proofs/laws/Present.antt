@@ -1,7 +1,7 @@
 -- Which fields a frame has, by the tests of its headers: a list of truths in place of readings.
 --   marks rs       of each reading whether it is a value
 --   shape f        the tests of each field, by number
-use Rattle.std.specs.Prelude.{ℕ, zero, suc, ◌+◌, ◌*◌, ◌/◌, ◌%◌, ◌^◌, ◌<◌, max, ◌≡◌, Bool, true, false, ◌&&◌, ◌||◌, leb, ltb, eqb, length, set, replicate}
+use Rattle.std.specs.Prelude.{ℕ, zero, suc, ◌+◌, ◌*◌, ◌/◌, ◌%◌, ◌^◌, ◌<◌, max, ◌≡◌, Bool, true, false, ◌&&◌, ◌||◌, leb, ltb, eqb, length, set, replicate, Option, None, Some}
 use Rattle.std.proofs.Common.{not-suc-le-zero, le_of_suc-le-suc, pow-suc, arith, ap₂, sym, ◌∙◌, ltb-true, length-set}
 use Rattle.std.proofs.Math.Path.{refl, ap}
 use Rattle.std.proofs.Math.Bool.{or-true, or-false, and_assoc}
@@ -10,8 +10,6 @@ use Rattle.std.specs.Int.Bits.{bit_or, or_step, or_zero_r}
 use Rattle.std.proofs.Math.ListN.{get_or}
 use Rattle.std.proofs.lemmas.List.{set-get_or}
 use Rattle.residue.specs.laws.Choice.{first, second}
-use Rattle.residue.specs.declared.Reading.{Reading}
-use Rattle.residue.specs.declared.Reading.TheVariants.{Absent, Value}
 use Rattle.sets.specs.Sets.{bit, set_of}
 use Rattle.sets.specs.laws.Members.{set_of_half, set_of_odd}
 use Rattle.fields.specs.Widths.{field_count}
@@ -24,17 +22,17 @@ use Rattle.fields.specs.Fields.{puts, readings, field}
 use Rattle.fields.specs.Header.{noted, present_set}
 use Rattle.fields.specs.Cut.{is_present}
 
-unfoldable marks : List Reading → List Bool
+unfoldable marks : List (Option ℕ) → List Bool
 marks [] = []
 marks (r ∷ rs) = is_present r ∷ marks rs
 
-marks_at : (rs : List Reading) (n : ℕ) → is_present (get_or rs n Absent) ≡ get_or (marks rs) n false
+marks_at : (rs : List (Option ℕ)) (n : ℕ) → is_present (get_or rs n None) ≡ get_or (marks rs) n false
 unfolding marks is_present
 marks_at [] n = refl
 marks_at (r ∷ rs) zero = refl
 marks_at (r ∷ rs) (suc n) = marks_at rs n
 
-marks_set : (rs : List Reading) (n x : ℕ) → marks (set rs n (Value x)) ≡ set (marks rs) n true
+marks_set : (rs : List (Option ℕ)) (n x : ℕ) → marks (set rs n (Some x)) ≡ set (marks rs) n true
 unfolding marks is_present
 marks_set [] n x = refl
 marks_set (r ∷ rs) zero x = refl
@@ -45,10 +43,10 @@ unfoldable ticked : Bool → List Put → List Bool → List Bool
 ticked b [] bs = bs
 ticked b ((n, x) ∷ ps) bs = ticked b ps (set bs n (get_or bs n false || b))
 
-put_marks : (ps : List Put) (rs : List Reading) → marks (put_all ps rs) ≡ ticked true ps (marks rs)
+put_marks : (ps : List Put) (rs : List (Option ℕ)) → marks (put_all ps rs) ≡ ticked true ps (marks rs)
 unfolding put_all ticked
 put_marks [] rs = refl
-put_marks ((n, x) ∷ ps) rs = put_marks ps (set rs n (Value x)) ∙ rw (marks_set rs n x, or-true (get_or (marks rs) n false))
+put_marks ((n, x) ∷ ps) rs = put_marks ps (set rs n (Some x)) ∙ rw (marks_set rs n x, or-true (get_or (marks rs) n false))
 
 unticked : (ps : List Put) (bs : List Bool) → ticked false ps bs ≡ bs
 unfolding ticked
@@ -186,7 +184,7 @@ module _ (f : List ℕ) (p : ℕ) where
   unfolding field readings marks is_present
   present_at n =
       marks_at (readings f p) n ∙
-      ap (λ (bs : List Bool). get_or bs n false) (put_marks (puts f p) (replicate field_count Absent) ∙ ticks)
+      ap (λ (bs : List Bool). get_or bs n false) (put_marks (puts f p) (replicate field_count None) ∙ ticks)
 
   numbers_below : below field_count (puts f p) ≡ true
   unfolding puts internet_puts below

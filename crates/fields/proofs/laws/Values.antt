@@ -1,10 +1,8 @@
 -- The value of a field fits its width.
-use Rattle.std.specs.Prelude.{ℕ, zero, suc, ◌≤◌, ◌<◌, ◌-◌, ◌^◌, ◌≡◌, refl, Bool, true, false, ◌&&◌, ◌||◌, List, [], ◌∷◌, ◌++◌, leb, eqb, length, get_or, set, replicate}
+use Rattle.std.specs.Prelude.{ℕ, zero, suc, ◌≤◌, ◌<◌, ◌-◌, ◌^◌, ◌≡◌, refl, Bool, true, false, ◌&&◌, ◌||◌, List, [], ◌∷◌, ◌++◌, leb, eqb, length, get_or, set, replicate, Option, None, Some}
 use Rattle.std.proofs.Math.Pow.{le_ones}
 use borrow.Author.Tests.{le-leb, leb-true}
 use Rattle.residue.specs.inner.Readings.{in_width}
-use Rattle.residue.specs.declared.Reading.{Reading}
-use Rattle.residue.specs.declared.Reading.TheVariants.{Absent, Value}
 use Rattle.fields.specs.Widths.{field_count, width, full}
 use Rattle.fields.specs.Bytes.{Bytes}
 use Rattle.fields.specs.Puts.{Put, only_if, put_all}
@@ -61,30 +59,30 @@ puts_fit f p known port =
 
 -- What holds of each reading and of the one that is put holds of each reading after it.
 set_keeps :
-    (P : ℕ → Reading → Type 0) (rs : List Reading) (m : ℕ) (r : Reading) →
-    ((n : ℕ) → P n (get_or rs n Absent)) → P m r → (n : ℕ) → P n (get_or (set rs m r) n Absent)
+    (P : ℕ → Option ℕ → Type 0) (rs : List (Option ℕ)) (m : ℕ) (r : Option ℕ) →
+    ((n : ℕ) → P n (get_or rs n None)) → P m r → (n : ℕ) → P n (get_or (set rs m r) n None)
 set_keeps P [] m r all new n = all n
 set_keeps P (q ∷ rs) zero r all new zero = new
 set_keeps P (q ∷ rs) zero r all new (suc n) = all (suc n)
 set_keeps P (q ∷ rs) (suc m) r all new zero = all zero
 set_keeps P (q ∷ rs) (suc m) r all new (suc n) = set_keeps (λ (k : ℕ). P (suc k)) rs m r (λ (k : ℕ). all (suc k)) new n
 
-abbrev FitsField : ℕ → Reading → Type 0
+abbrev FitsField : ℕ → Option ℕ → Type 0
 FitsField n r = in_width (full n) r ≡ true
 
-in_width_lem : (w : ℕ) {x : ℕ} → x < 2 ^ w → in_width (2 ^ w - 1) (Value x) ≡ true
+in_width_lem : (w : ℕ) {x : ℕ} → x < 2 ^ w → in_width (2 ^ w - 1) (Some x) ≡ true
 unfolding in_width
 in_width_lem w {x} h = le-leb x (2 ^ w - 1) (le_ones w h)
 
 all_in_width :
-    {ps : List Put} → AllFit ps → (rs : List Reading) → ((n : ℕ) → FitsField n (get_or rs n Absent)) →
-    (n : ℕ) → FitsField n (get_or (put_all ps rs) n Absent)
+    {ps : List Put} → AllFit ps → (rs : List (Option ℕ)) → ((n : ℕ) → FitsField n (get_or rs n None)) →
+    (n : ℕ) → FitsField n (get_or (put_all ps rs) n None)
 unfolding put_all full
 all_in_width none rs all = all
 all_in_width (more n {x} fit fits) rs all =
-    all_in_width fits (set rs n (Value x)) (set_keeps FitsField rs n (Value x) all (in_width_lem (width n) fit))
+    all_in_width fits (set rs n (Some x)) (set_keeps FitsField rs n (Some x) all (in_width_lem (width n) fit))
 
-absent_in_width : (k n m : ℕ) → in_width m (get_or (replicate k Absent) n Absent) ≡ true
+absent_in_width : (k n m : ℕ) → in_width m (get_or (replicate k None) n None) ≡ true
 unfolding in_width
 absent_in_width zero n m = refl
 absent_in_width (suc k) zero m = refl
@@ -94,8 +92,8 @@ module _ (f : List ℕ) (p : ℕ) (known : Bytes f) (port : p < 2 ^ 8) (n : ℕ)
   pub value_in_width : in_width (full n) (field f p n) ≡ true
   unfolding field readings
   value_in_width =
-      all_in_width (puts_fit f p known port) (replicate field_count Absent) (λ (k : ℕ). absent_in_width field_count k (full k)) n
+      all_in_width (puts_fit f p known port) (replicate field_count None) (λ (k : ℕ). absent_in_width field_count k (full k)) n
 
-  pub value_fits : {x : ℕ} → field f p n ≡ Value x → x ≤ full n
+  pub value_fits : {x : ℕ} → field f p n ≡ Some x → x ≤ full n
   unfolding in_width
   value_fits {x} e = leb-true x (full n) (rw e at value_in_width)

@@ -25,4 +25,4 @@ returns-in_default c = let within : c.args.number < 14 = omega arith in
 
 pub returns : goal.returns
 unfolding seen_at seen_of
-returns c = simp (sym c.reading_at.ensures ∙ c.in-Value.is)
+returns c = simp (sym c.reading_at.ensures ∙ c.in-Some.is)

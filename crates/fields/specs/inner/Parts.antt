@@ -7,13 +7,10 @@
 --   part_puts f         the fields of the transport part, the third step; the second is the packet's header
 --   lacking f s        what of the fields that could be there is not in the set s
 --   carried f i        for each field up to 12 whether a part could have it whose protocol is byte i of the frame
-use Rattle.std.specs.Prelude.{ℕ, ◌-◌, ◌^◌, ◌≡◌, Bool, false, cond, ◌||◌, List, [], ◌∷◌, ◌++◌, eqb}
+use Rattle.std.specs.Prelude.{ℕ, ◌-◌, ◌^◌, ◌≡◌, Bool, false, cond, ◌||◌, List, [], ◌∷◌, ◌++◌, eqb, Option, None, Some}
 use Rattle.std.specs.Int.Bits.{bit_and}
-use Rattle.residue.specs.declared.Reading.{Reading}
-use Rattle.residue.specs.declared.Reading.TheVariants.{Absent, Value}
 use Rattle.fields.specs.declared.ethernet.Begun.{Begun}
-use Rattle.fields.specs.declared.ipv4.Packet.{Packet}
-use Rattle.fields.specs.declared.ipv4.Packet.TheVariants.{Nothing, Whole}
+use Rattle.fields.specs.declared.ipv4.Part.{Part}
 use Rattle.sets.specs.Sets.{set_of}
 use Rattle.fields.specs.Puts.{Put, only_if}
 use Rattle.fields.specs.Ethernet.{ether_type, ethernet}
@@ -26,11 +23,11 @@ pub record Added (ps : List Put) (s : ℕ) (old : List ℕ) (r : ℕ) (new : Lis
   pub set : r ≡ noted ps s
   pub words : new ≡ filled ps old
 
-abbrev pub type_in : List ℕ → Reading
-type_in f = cond (ethernet f) (Value (ether_type f)) Absent
+abbrev pub type_in : List ℕ → Option ℕ
+type_in f = cond (ethernet f) (Some (ether_type f)) None
 
-abbrev pub packet_in : List ℕ → Packet
-packet_in f = cond (internet f) (Whole (transport_start f) (transport_end f)) Nothing
+abbrev pub packet_in : List ℕ → Option Part
+packet_in f = cond (internet f) (Some (record { start = transport_start f; end = transport_end f })) None
 
 abbrev pub first_puts : List ℕ → ℕ → List Put
 first_puts f p = (13, p) ∷ [] ++ only_if (ethernet f) ((0, ether_type f) ∷ [])

@@ -1,8 +1,7 @@
 -- What paths by any choice of questions keep, and that a path by some of the remaining tests is a path.
 -- Assumes nothing.
-use Rattle.std.specs.Prelude.{ℕ, List}
+use Rattle.std.specs.Prelude.{ℕ, List, Option}
 use Rattle.std.proofs.Common.{sym, subst}
-use Rattle.residue.specs.declared.Reading.{Reading}
 use Rattle.residue.specs.declared.Outcome.{Outcome}
 use Rattle.lists.specs.Filters.{Item, Filter}
 use Rattle.states.specs.States.{State, step_by}
@@ -22,7 +21,7 @@ pub leads_weaken :
 leads_weaken f leads_none = leads_none
 leads_weaken f (leads_more {s = s} q o a l) = leads_more q o (f q o s a) (leads_weaken f l)
 
-module _ (fs : List Filter) (r : ℕ → Reading) where
+module _ (fs : List Filter) (r : ℕ → Option ℕ) where
   -- Questions that are remaining tests make a path of the frame, and that is a path.
   pub path_of :
       {May : Item → State → Type 0} → ((q : Item) (s : State) → May q s → Chosen q s) → {n : ℕ} {s t : State} → Leads fs (OfFrame r May) n s t → Path fs r n s t

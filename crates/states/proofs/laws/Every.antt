@@ -2,7 +2,7 @@
 --   every_item p ts, every_standing p x, every_state p s   p is true of every test that remains
 --   leaves p n d                                        p is true of the test on field n that the residue d leaves, if it leaves one
 use Prim.Native.Nat.{ℕ, zero, suc, ◌+◌}
-use Rattle.std.specs.Prelude.{◌≡◌, Bool, cond, eqb}
+use Rattle.std.specs.Prelude.{◌≡◌, Bool, cond, eqb, Option}
 use Rattle.std.proofs.Math.Path.{refl, subst}
 use Rattle.std.proofs.Common.{sym}
 use Rattle.std.proofs.Math.Bool.{true, false}
@@ -12,7 +12,6 @@ use Rattle.residue.specs.laws.Choice.{by_cond, both, first, second, either}
 use Rattle.residue.specs.inner.Relations.{every_left}
 use Rattle.residue.specs.Residues.{residue_by}
 use Rattle.residue.specs.declared.Test.{Test}
-use Rattle.residue.specs.declared.Fact.{Fact}
 use Rattle.residue.specs.declared.Outcome.{Outcome}
 use Rattle.residue.specs.declared.Residue.{Residue}
 use Rattle.residue.specs.declared.Residue.TheVariants.{True, False, Left}
@@ -90,7 +89,7 @@ module _ (p : Item → Bool) where
 -- ---- a division, by the fact k about field n: what p holds of before, p' holds of after
 
 module _
-    (p p' : Item → Bool) (n : ℕ) (k : Fact)
+    (p p' : Item → Bool) (n : ℕ) (k : Option Test)
     (same : (t : Item) → p t ≡ true → eqb t.field n ≡ true → leaves p' n (residue_by (full n) k t.test) ≡ true)
     (other : (t : Item) → p t ≡ true → eqb t.field n ≡ false → p' t ≡ true) where
   every_cut : (ts : List Item) → every_item p ts ≡ true → every_standing p' (cut n k ts) ≡ true

@@ -4,7 +4,7 @@
 --   picks_run              the frame's path by document 01's questions, up to the allowance or to a final state, is run, and its count asked_in
 --   follow_leads           outcomes lead on by a question each, as long as there is one
 use Prim.Native.Nat.{ℕ, zero, suc, ◌≤◌}
-use Rattle.std.specs.Prelude.{◌≡◌, ◌⊎◌, false, ◌&&◌}
+use Rattle.std.specs.Prelude.{◌≡◌, ◌⊎◌, false, ◌&&◌, Option}
 use Rattle.std.proofs.Math.Path.{refl, ap}
 use Rattle.std.proofs.Common.{sym, ◌∙◌, subst, ⊎_elim, not-suc-le-zero, le_of_suc-le-suc}
 use Rattle.std.proofs.Math.Logic.{inl, inr}
@@ -14,7 +14,6 @@ use mathlib.Core.List.{List, [], ◌∷◌}
 use Rattle.std.proofs.Math.Nat.{suc_inj}
 use Rattle.std.proofs.Math.Numerals.{add-one}
 use Rattle.std.proofs.Math.ListN.{length}
-use Rattle.residue.specs.declared.Reading.{Reading}
 use Rattle.residue.specs.declared.Outcome.{Outcome}
 use Rattle.lists.specs.Filters.{Item, Filter}
 use Rattle.states.specs.States.{out, left, State, Question, nothing, ask, question_of, step_by, step_at, step}
@@ -56,7 +55,7 @@ pub step_ask : (fs : List Filter) (o : Outcome) (q : Item) (s : State) → quest
 unfolding step step_at
 step_ask fs o q s e = ap (λ (a : Question). step_at fs o a s) e
 
-module _ (fs : List Filter) (r : ℕ → Reading) where
+module _ (fs : List Filter) (r : ℕ → Option ℕ) where
   pub advance_ask : (q : Item) (s : State) → question_of s ≡ ask q → advance fs r s ≡ step_by fs (way_of r q) q s
   unfolding advance advance_at
   advance_ask q s e = ap (λ (a : Question). advance_at fs r a s) e

@@ -1,12 +1,11 @@
 -- The number of remaining tests falls at each question that is one of them, so a path ends, after as many questions as the list has tests at most.
-use Rattle.std.specs.Prelude.{ℕ, suc, ◌+◌, ◌≤◌, ◌<◌, ◌≡◌, refl, Bool, true, false, cond, List, [], ◌∷◌, map, eqb, length}
+use Rattle.std.specs.Prelude.{ℕ, suc, ◌+◌, ◌≤◌, ◌<◌, ◌≡◌, refl, Bool, true, false, cond, List, [], ◌∷◌, map, eqb, length, Option}
 use Rattle.std.proofs.Common.{ap, subst, le_refl, arith, eq-eqb}
 use Rattle.std.proofs.lemmas.Bool.{false≢true}
 use Rattle.residue.specs.Residues.{residue_by}
 use Rattle.residue.specs.laws.Choice.{by_cond, either}
 use Rattle.residue.specs.inner.Relations.{is_settled}
 use Rattle.residue.specs.laws.Questions.{residue_own}
-use Rattle.residue.specs.declared.Fact.{Fact}
 use Rattle.residue.specs.declared.Outcome.{Outcome}
 use Rattle.residue.specs.declared.Residue.{Residue}
 use Rattle.residue.specs.declared.Residue.TheVariants.{True, False, Left}
@@ -23,6 +22,7 @@ use Rattle.states.specs.inner.Choices.{among, left_in, Leads, leads_none, leads_
 use Rattle.states.proofs.laws.Well.{item_test, well_start, well_left_lem, well_step}
 use Rattle.states.specs.inner.Well.{well_state}
 use Rattle.states.proofs.laws.Keeps.{none_asked, by_question, question_left, step_ask, follow_leads}
+use Rattle.residue.specs.declared.Test.{Test}
 
 -- ---- dividing and closing add no test
 
@@ -43,7 +43,7 @@ join_settled n True x e = le_refl _
 join_settled n False x e = omega arith
 join_settled n (Left u) x e = absurd (false≢true e)
 
-cut_le : (n : ℕ) (k : Fact) (ts : List Item) → remaining_in (cut n k ts) ≤ length ts
+cut_le : (n : ℕ) (k : Option Test) (ts : List Item) → remaining_in (cut n k ts) ≤ length ts
 unfolding cut remaining_in
 cut_le n k [] = le_refl _
 cut_le n k (t ∷ ts) =
@@ -51,12 +51,12 @@ cut_le n k (t ∷ ts) =
     (λ _. omega (arith, join_le n (residue_by (full n) k t.test) (cut n k ts), cut_le n k ts))
     (λ _. omega (arith, keep_le t (cut n k ts), cut_le n k ts))
 
-pub cut_standing_le : (n : ℕ) (k : Fact) (x : Standing) → remaining_in (cut_standing n k x) ≤ remaining_in x
+pub cut_standing_le : (n : ℕ) (k : Option Test) (x : Standing) → remaining_in (cut_standing n k x) ≤ remaining_in x
 unfolding cut_standing remaining_in
 cut_standing_le n k out = le_refl _
 cut_standing_le n k (left ts) = cut_le n k ts
 
-map_le : (n : ℕ) (k : Fact) (s : State) → remaining (map (cut_standing n k) s) ≤ remaining s
+map_le : (n : ℕ) (k : Option Test) (s : State) → remaining (map (cut_standing n k) s) ≤ remaining s
 unfolding remaining
 map_le n k [] = le_refl _
 map_le n k (x ∷ s) = omega (arith, cut_standing_le n k x, map_le n k s)

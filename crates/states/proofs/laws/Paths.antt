@@ -1,10 +1,9 @@
 -- Demands 2 and 3 about one path of the frame whose field k reads r k, in one place, whichever remaining tests it asks.
 --   after fs r n        the state after n of document 01's questions
 --   PathTruth fs r n s  what the state s promises that n questions have led to
-use Rattle.std.specs.Prelude.{ℕ, ◌+◌, ◌≤◌, ◌≡◌, true, false, ◌&&◌, List, ltb, length}
+use Rattle.std.specs.Prelude.{ℕ, ◌+◌, ◌≤◌, ◌≡◌, true, false, ◌&&◌, List, ltb, length, Option}
 use Rattle.std.proofs.Common.{arith}
 use Rattle.std.proofs.Math.Path.{ap}
-use Rattle.residue.specs.declared.Reading.{Reading}
 use Rattle.sets.specs.Sets.{set_of, member}
 use Rattle.sets.specs.laws.Members.{tally_ext, member_tally}
 use Rattle.lists.specs.inner.Well.{well_filters}
@@ -21,7 +20,7 @@ use Rattle.states.proofs.laws.Truth.{Tells, InWidths, tells_start, path_tells}
 use Rattle.states.proofs.laws.Sure.{Shut, sure_matches, out_not_matches, final_sure, final_none_open}
 use Rattle.states.proofs.laws.Stays.{shut_start, leads_shut, leads_sure, leads_out}
 
-abbrev pub after : List Filter → (ℕ → Reading) → ℕ → State
+abbrev pub after : List Filter → (ℕ → Option ℕ) → ℕ → State
 after fs r n = run fs r n (start fs)
 
 -- The sets by their members.
@@ -34,7 +33,7 @@ unfolding out_set
 member_out fs s i = member_tally (length fs) (λ j. is_out (standing s j)) i
 
 -- The state s that n questions of the frame have led to from the start, each any of the remaining tests that it met.
-pub record PathTruth (fs : List Filter) (r : ℕ → Reading) (n : ℕ) (s : State) : Type 0 where
+pub record PathTruth (fs : List Filter) (r : ℕ → Option ℕ) (n : ℕ) (s : State) : Type 0 where
   -- What it says is true of the frame: a sure filter is in the match set, an out one is not.
   pub tells : Tells fs r s
   pub sure_true : (i : ℕ) → sure fs s i ≡ true → matches fs r i ≡ true
@@ -50,7 +49,7 @@ pub record PathTruth (fs : List Filter) (r : ℕ → Reading) (n : ℕ) (s : Sta
   pub few : n ≤ tests_in fs
   pub ended : tests_in fs ≤ n → question_of s ≡ nothing
 
-module _ (fs : List Filter) (r : ℕ → Reading) (h : well_filters fs ≡ true) (w : InWidths r) where
+module _ (fs : List Filter) (r : ℕ → Option ℕ) (h : well_filters fs ≡ true) (w : InWidths r) where
   pub path_truth : {n : ℕ} {s : State} → Path fs r n (start fs) s → PathTruth fs r n s
   unfolding sure_set match_set
   path_truth {n} {s} p =

@@ -1,21 +1,21 @@
 -- What a state says of one filter: after a division, after closing, at the start. With these three every law is about one filter at a time.
 --   fact_by o q      the fact that the question q gives at the outcome o
 --   divided o q s   the state s once the question q came to o, not yet closed
-use Rattle.std.specs.Prelude.{ℕ, zero, suc, ◌+◌, ◌≤◌, ◌<◌, ◌≡◌, refl, Bool, true, false, cond, ◌&&◌, List, [], ◌∷◌, map, length}
+use Rattle.std.specs.Prelude.{ℕ, zero, suc, ◌+◌, ◌≤◌, ◌<◌, ◌≡◌, refl, Bool, true, false, cond, ◌&&◌, List, [], ◌∷◌, map, length, Option}
 use Rattle.std.proofs.Common.{sym, ap, ◌∙◌, add-zero, zero-add, not-suc-le-zero, le_of_suc-le-suc, arith}
 use Rattle.std.proofs.lemmas.List.{length-map}
 use Rattle.std.proofs.Math.ListN.{get_or-map, get_or-eq_default}
 use Rattle.residue.specs.Facts.{fact_of}
 use Rattle.residue.specs.laws.Choice.{both, first, second}
-use Rattle.residue.specs.declared.Fact.{Fact}
 use Rattle.residue.specs.declared.Outcome.{Outcome}
 use Rattle.fields.specs.Widths.{full}
 use Rattle.lists.specs.Filters.{Item, Filter}
 use Rattle.sets.specs.laws.Members.{some_true, some_where}
 use Rattle.lists.specs.Ranks.{tests_of, above}
 use Rattle.states.specs.States.{out, left, State, standing, is_held, cut_standing, beaten, closed_from, closed, all_left, start, step_by}
+use Rattle.residue.specs.declared.Test.{Test}
 
-abbrev pub fact_by : Outcome → Item → Fact
+abbrev pub fact_by : Outcome → Item → Option Test
 fact_by o q = fact_of (full q.field) o q.test
 
 unfoldable pub divided : Outcome → Item → State → State

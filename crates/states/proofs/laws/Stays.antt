@@ -1,8 +1,7 @@
 -- What a step never takes back: a sure filter stays sure and an out filter stays out, whatever the outcome. Closed states stay closed.
-use Rattle.std.specs.Prelude.{ℕ, ◌≡◌, refl, Bool, true, false, cond, List, [], ◌∷◌, map}
+use Rattle.std.specs.Prelude.{ℕ, ◌≡◌, refl, Bool, true, false, cond, List, [], ◌∷◌, map, Option}
 use Rattle.std.proofs.lemmas.Bool.{false≢true}
 use Rattle.residue.specs.laws.Choice.{by_cond, never, clash}
-use Rattle.residue.specs.declared.Fact.{Fact}
 use Rattle.residue.specs.declared.Outcome.{Outcome}
 use Rattle.lists.specs.Filters.{Item, Filter}
 use Rattle.states.specs.States.{Standing, out, left, State, standing, is_held, is_out, cut, cut_standing, beaten, closed, all_left, start, step_by, sure}
@@ -10,6 +9,7 @@ use Rattle.states.proofs.laws.Standings.{fact_by, divided, step_closes, standing
 use Rattle.states.proofs.laws.Choices.{leads_keeps}
 use Rattle.states.specs.inner.Choices.{Leads, Free}
 use Rattle.states.proofs.laws.Sure.{not_held_out, Shut, sure_held, sure_above, held_sure}
+use Rattle.residue.specs.declared.Test.{Test}
 
 -- ---- closing
 
@@ -40,7 +40,7 @@ shut_step fs o q s = rw (step_closes fs o q s) (shut_closed fs (divided o q s))
 
 -- ---- out stays
 
-cut_out : (n : ℕ) (k : Fact) (x : Standing) → is_out x ≡ true → is_out (cut_standing n k x) ≡ true
+cut_out : (n : ℕ) (k : Option Test) (x : Standing) → is_out x ≡ true → is_out (cut_standing n k x) ≡ true
 unfolding cut_standing is_out
 cut_out n k out e = refl
 cut_out n k (left ts) e = absurd (false≢true e)
@@ -56,7 +56,7 @@ out_stays fs o q s i e = rw (step_closes fs o q s) (out_closed fs (divided o q s
 
 -- ---- sure stays
 
-cut_held : (n : ℕ) (k : Fact) (x : Standing) → is_held x ≡ true → is_held (cut_standing n k x) ≡ true
+cut_held : (n : ℕ) (k : Option Test) (x : Standing) → is_held x ≡ true → is_held (cut_standing n k x) ≡ true
 unfolding cut_standing cut is_held
 cut_held n k out e = absurd (false≢true e)
 cut_held n k (left []) e = refl

@@ -1,11 +1,10 @@
 -- What a state that tells the truth says of the match set: sure filters match, out filters do not, and at a final state nothing else is left.
 --   Shut fs s          every filter that ranks below a held one is out
-use Rattle.std.specs.Prelude.{ℕ, zero, suc, ◌<◌, ◌≡◌, refl, Bool, true, false, ◌&&◌, List, [], ◌∷◌, ltb, length}
+use Rattle.std.specs.Prelude.{ℕ, zero, suc, ◌<◌, ◌≡◌, refl, Bool, true, false, ◌&&◌, List, [], ◌∷◌, ltb, length, Option}
 use Rattle.std.proofs.Common.{sym, ap, subst, ⊎_elim}
 use Rattle.std.proofs.Math.Bool.{not}
 use Rattle.std.proofs.lemmas.Bool.{false≢true, not-true}
 use Rattle.residue.specs.laws.Choice.{never, same_bool, both, first, second, by_test, clash}
-use Rattle.residue.specs.declared.Reading.{Reading}
 use Rattle.sets.specs.Sets.{some}
 use Rattle.sets.specs.laws.Members.{some_true, some_none}
 use Rattle.lists.specs.Filters.{Filter}
@@ -21,7 +20,7 @@ unfolding is_held is_out
 not_held_out out e = absurd (false≢true e)
 not_held_out (left ts) e = refl
 
-out_said : (fs : List Filter) (r : ℕ → Reading) (i : ℕ) (x : Standing) → is_out x ≡ true → Says fs r x i → Says fs r out i
+out_said : (fs : List Filter) (r : ℕ → Option ℕ) (i : ℕ) (x : Standing) → is_out x ≡ true → Says fs r x i → Says fs r out i
 unfolding is_out
 out_said fs r i out e t = t
 out_said fs r i (left ts) e t = absurd (false≢true e)
@@ -60,7 +59,7 @@ module _ (fs : List Filter) where
 
 -- ---- the match set
 
-module _ (fs : List Filter) (r : ℕ → Reading) where
+module _ (fs : List Filter) (r : ℕ → Option ℕ) where
   -- In a state that tells the truth the topmost is not out.
   top_not_out : (s : State) → Tells fs r s → (i k : ℕ) → Top fs r (length fs) i k → is_out (standing s k) ≡ false
   top_not_out s t i k p =
@@ -84,7 +83,7 @@ module _ (fs : List Filter) (r : ℕ → Reading) where
       p.1.over))
       (top_not_out s t j k p.1))
 
-pub out_not_matches : (fs : List Filter) (r : ℕ → Reading) (s : State) → Tells fs r s → (i : ℕ) → is_out (standing s i) ≡ true → matches fs r i ≡ false
+pub out_not_matches : (fs : List Filter) (r : ℕ → Option ℕ) (s : State) → Tells fs r s → (i : ℕ) → is_out (standing s i) ≡ true → matches fs r i ≡ false
 out_not_matches fs r s t i e =
     never (matches fs r i)
     (λ m.
@@ -106,7 +105,7 @@ final_standing (left [] ∷ s) e (suc i) h = final_standing s e i h
 final_standing (left (t ∷ ts) ∷ s) e i h = absurd (none_asked t (sym e))
 
 -- What matches is sure at a final state.
-final_matches : (fs : List Filter) (r : ℕ → Reading) (s : State) → Tells fs r s → question_of s ≡ nothing → (i : ℕ) → matches fs r i ≡ true → sure fs s i ≡ true
+final_matches : (fs : List Filter) (r : ℕ → Option ℕ) (s : State) → Tells fs r s → question_of s ≡ nothing → (i : ℕ) → matches fs r i ≡ true → sure fs s i ≡ true
 final_matches fs r s t e i m =
     held_sure fs s i
     (final_standing s e i (never (is_out (standing s i)) (λ z. clash (matches fs r i) m (out_not_matches fs r s t i z))))
@@ -114,7 +113,7 @@ final_matches fs r s t e i m =
     by_test (is_out (standing s j) ≡ true) (is_out (standing s j)) (λ z. z)
     (λ z. absurd (matches_top fs r i m j a (held_fires fs r s t j (final_standing s e j z)))))
 
-pub final_sure : (fs : List Filter) → (r : ℕ → Reading) (s : State) → Tells fs r s → question_of s ≡ nothing → (i : ℕ) → sure fs s i ≡ matches fs r i
+pub final_sure : (fs : List Filter) → (r : ℕ → Option ℕ) (s : State) → Tells fs r s → question_of s ≡ nothing → (i : ℕ) → sure fs s i ≡ matches fs r i
 final_sure fs r s t e i = same_bool (sure fs s i) (matches fs r i) (sure_matches fs r s t i) (final_matches fs r s t e i)
 
 abbrev pub Shut : List Filter → State → Type 0

@@ -3,7 +3,7 @@
 --   Says fs r x i     what the standing x says of filter i is true, where field n reads r n
 --   Tells fs r s      what the state s says of every filter is true
 --   InWidths r        each reading is one of its field's width
-use Rattle.std.specs.Prelude.{ℕ, ◌-◌, ◌^◌, ◌≡◌, ◌⊎◌, Bool, ◌&&◌, eqb, length}
+use Rattle.std.specs.Prelude.{ℕ, ◌-◌, ◌^◌, ◌≡◌, ◌⊎◌, Bool, ◌&&◌, eqb, length, Option}
 use Rattle.std.proofs.Math.Path.{refl, sym, ap, ap₂, subst}
 use Rattle.std.proofs.Common.{◌∙◌, inr, arith}
 use Rattle.std.proofs.Math.Logic.{inl}
@@ -21,8 +21,6 @@ use Rattle.residue.specs.laws.Choice.{by_cond, first, second}
 use Rattle.residue.specs.laws.Sound.{residue_sound}
 use Rattle.residue.specs.laws.Questions.{outcome_fact_so}
 use Rattle.residue.specs.declared.Test.{Test}
-use Rattle.residue.specs.declared.Reading.{Reading}
-use Rattle.residue.specs.declared.Fact.{Fact}
 use Rattle.residue.specs.declared.Residue.{Residue}
 use Rattle.residue.specs.declared.Residue.TheVariants.{True, False, Left}
 use Rattle.fields.specs.Widths.{width, full}
@@ -39,21 +37,21 @@ use Rattle.states.specs.inner.Well.{every_item, every_standing}
 use Rattle.states.proofs.laws.Choices.{path_keeps}
 use Rattle.states.specs.inner.Choices.{Path}
 
-unfoldable pub holds_in : (ℕ → Reading) → Standing → Bool
+unfoldable pub holds_in : (ℕ → Option ℕ) → Standing → Bool
 holds_in r out = false
 holds_in r (left ts) = all_hold r ts
 
-abbrev pub Beaten : List Filter → (ℕ → Reading) → ℕ → Type 0
+abbrev pub Beaten : List Filter → (ℕ → Option ℕ) → ℕ → Type 0
 Beaten fs r i = (j : ℕ) × (above fs j i ≡ true) × (fires fs r j ≡ true)
 
-abbrev pub Says : List Filter → (ℕ → Reading) → Standing → ℕ → Type 0
+abbrev pub Says : List Filter → (ℕ → Option ℕ) → Standing → ℕ → Type 0
 Says fs r out i = (fires fs r i ≡ false) ⊎ Beaten fs r i
 Says fs r (left ts) i = fires fs r i ≡ all_hold r ts
 
-abbrev pub Tells : List Filter → (ℕ → Reading) → State → Type 0
+abbrev pub Tells : List Filter → (ℕ → Option ℕ) → State → Type 0
 Tells fs r s = (i : ℕ) → Says fs r (standing s i) i
 
-abbrev pub InWidths : (ℕ → Reading) → Type 0
+abbrev pub InWidths : (ℕ → Option ℕ) → Type 0
 InWidths r = (n : ℕ) → in_width (full n) (r n) ≡ true
 
 -- ---- residues
@@ -64,7 +62,7 @@ full_power n = refl
 
 -- Over the width of field n.
 divide_sound :
-    (n : ℕ) (k : Fact) (t : Test) (x : Reading) → well_known (full n) k ≡ true → well_formed (full n) t ≡ true → in_width (full n) x ≡ true → is_so k x ≡ true →
+    (n : ℕ) (k : Option Test) (t : Test) (x : Option ℕ) → well_known (full n) k ≡ true → well_formed (full n) t ≡ true → in_width (full n) x ≡ true → is_so k x ≡ true →
     holds_of t x ≡ remains (residue_by (full n) k t) x
 divide_sound n k t x = residue_sound (width n) (full n) (full_power n) k t x
 
@@ -76,7 +74,7 @@ held_left out e = absurd (false≢true e)
 held_left (left []) e = refl
 held_left (left (t ∷ ts)) e = absurd (false≢true e)
 
-module _ (fs : List Filter) (r : ℕ → Reading) where
+module _ (fs : List Filter) (r : ℕ → Option ℕ) where
   pub held_fires : (s : State) → Tells fs r s → (i : ℕ) → is_held (standing s i) ≡ true → fires fs r i ≡ true
   unfolding all_hold
   held_fires s t i e = subst (λ (x : Standing). Says fs r x i) (held_left (standing s i) e) (t i)
@@ -127,7 +125,7 @@ module _ (fs : List Filter) (r : ℕ → Reading) where
 
   module _ (w : InWidths r) where
     cut_holds :
-        (n : ℕ) (k : Fact) (ts : List Item) → well_known (full n) k ≡ true → is_so k (r n) ≡ true → every_item well_item ts ≡ true → holds_in r (cut n k ts) ≡ all_hold r ts
+        (n : ℕ) (k : Option Test) (ts : List Item) → well_known (full n) k ≡ true → is_so k (r n) ≡ true → every_item well_item ts ≡ true → holds_in r (cut n k ts) ≡ all_hold r ts
     unfolding cut holds_in all_hold every_item
     cut_holds n k [] g so h = refl
     cut_holds n k (t ∷ ts) g so h =
@@ -142,7 +140,7 @@ module _ (fs : List Filter) (r : ℕ → Reading) where
         (λ _. keep_holds t (cut n k ts) ∙ ap (λ (b : Bool). holds_of t.test (r t.field) && b) hs)
 
     cut_says :
-        (n : ℕ) (k : Fact) (x : Standing) (i : ℕ) → well_known (full n) k ≡ true → is_so k (r n) ≡ true → every_standing well_item x ≡ true → Says fs r x i →
+        (n : ℕ) (k : Option Test) (x : Standing) (i : ℕ) → well_known (full n) k ≡ true → is_so k (r n) ≡ true → every_standing well_item x ≡ true → Says fs r x i →
         Says fs r (cut_standing n k x) i
     unfolding cut_standing every_standing
     cut_says n k out i g so h t = t

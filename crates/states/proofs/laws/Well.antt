@@ -1,6 +1,6 @@
 -- Well-formed states: every test that remains is one that refusals 5 to 9 leave. The start of a well-formed list is well formed, and each step keeps it so.
 --   well_state s   every test that remains in s is well formed
-use Rattle.std.specs.Prelude.{ℕ, ◌≡◌, refl, Bool, true, ◌&&◌, List, [], ◌∷◌, map, ltb, eqb}
+use Rattle.std.specs.Prelude.{ℕ, ◌≡◌, refl, Bool, true, ◌&&◌, List, [], ◌∷◌, map, ltb, eqb, Option}
 use Rattle.std.proofs.Common.{ap, ◌∙◌, subst, eqb-true}
 use Rattle.residue.specs.inner.Well.{well_formed, well_known}
 use Rattle.residue.specs.Residues.{residue_by}
@@ -8,7 +8,6 @@ use Rattle.residue.specs.laws.Choice.{both, first, second}
 use Rattle.residue.specs.laws.Questions.{fact_well}
 use Rattle.residue.specs.laws.Narrowing.{residue_narrows, narrows_well, every_more}
 use Rattle.residue.specs.declared.Test.{Test}
-use Rattle.residue.specs.declared.Fact.{Fact}
 use Rattle.residue.specs.declared.Outcome.{Outcome}
 use Rattle.residue.specs.inner.Relations.{narrows}
 use Rattle.fields.specs.Widths.{full, field_count}
@@ -66,7 +65,7 @@ well_left_lem s q h e = every_left_lem well_item s q h e
 
 -- What a fact leaves of a well-formed item is one.
 pub item_leaves :
-    (n : ℕ) (k : Fact) (t : Item) → eqb t.field n ≡ true → well_item t ≡ true → leaves well_item n (residue_by (full n) k t.test) ≡ true
+    (n : ℕ) (k : Option Test) (t : Item) → eqb t.field n ≡ true → well_item t ≡ true → leaves well_item n (residue_by (full n) k t.test) ≡ true
 unfolding well_item
 item_leaves n k t e h =
     every_more (narrows t.test) (λ (u : Test). well_item (record { field = n; test = u })) (residue_by (full n) k t.test)

@@ -5,8 +5,7 @@
 --   OfFrame r May            the question is one that May allows of the state, and its outcome is that of the frame whose field k reads r k
 --   Path fs r n s t          a path of that frame, by n remaining tests
 --   Free                     the question is one of the remaining tests, whatever its outcome
-use Rattle.std.specs.Prelude.{ℕ, zero, suc, ◌≡◌, Bool, true, false, ◌||◌, List, [], ◌∷◌}
-use Rattle.residue.specs.declared.Reading.{Reading}
+use Rattle.std.specs.Prelude.{ℕ, zero, suc, ◌≡◌, Bool, true, false, ◌||◌, List, [], ◌∷◌, Option}
 use Rattle.residue.specs.declared.Outcome.{Outcome}
 use Rattle.lists.specs.Filters.{Item, Filter}
 use Rattle.states.specs.States.{out, left, State, ask, question_of, step_by}
@@ -32,10 +31,10 @@ Chosen q s = left_in q s ≡ true
 abbrev pub Picked : Item → State → Type 0
 Picked q s = question_of s ≡ ask q
 
-abbrev pub OfFrame : (ℕ → Reading) → (Item → State → Type 0) → Item → Outcome → State → Type 0
+abbrev pub OfFrame : (ℕ → Option ℕ) → (Item → State → Type 0) → Item → Outcome → State → Type 0
 OfFrame r May q o s = May q s × (o ≡ way_of r q)
 
-abbrev pub Path : List Filter → (ℕ → Reading) → ℕ → State → State → Type 0
+abbrev pub Path : List Filter → (ℕ → Option ℕ) → ℕ → State → State → Type 0
 Path fs r n s t = Leads fs (OfFrame r Chosen) n s t
 
 abbrev pub Free : Item → Outcome → State → Type 0

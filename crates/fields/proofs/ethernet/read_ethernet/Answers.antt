@@ -10,7 +10,7 @@ returns-in_default c = let none = no_type _ (sym c.type_in.ensures ∙ c.in_defa
     record { puts = rw none c.put-present.ensures; found = rw (unframed _ none) }
 
 pub returns : goal.returns
-returns c = let known = is_type _ (sym c.type_in.ensures ∙ c.in-Value.is) in
+returns c = let known = is_type _ (sym c.type_in.ensures ∙ c.in-Some.is) in
     record {
       puts = rw (known.0, known.1) (then c.put-present.ensures c.put.ensures);
       found = c.packet_in-packet.ensures;

@@ -6,28 +6,28 @@ use Rattle.fields.specs.Ipv4.{protocol}
 use Rattle.fields.proofs.laws.Filling.{unchanged}
 use Rattle.fields.proofs.Headers.{PacketAt, is_packet, no_packet}
 use Rattle.fields.proofs.ipv4.read_transport.Goals as goal
-use Rattle.fields.proofs.ipv4.read_transport.Goals.{In-Whole}
+use Rattle.fields.proofs.ipv4.read_transport.Goals.{In-Some}
 
 pub returns-in_default : goal.returns-in_default
 returns-in_default c = rw (no_packet _ (sym c.requires ∙ c.in_default.is)) unchanged
 
-packet_known : (c : In-Whole) → PacketAt c.args.frame.now c.in-Whole.start c.in-Whole.end
-packet_known c = is_packet _ (sym c.requires ∙ c.in-Whole.is)
+packet_known : (c : In-Some) → PacketAt c.args.frame.now c.in-Some.part.start c.in-Some.part.end
+packet_known c = is_packet _ (sym c.requires ∙ c.in-Some.is)
 
 pub byte_at-protocol-requires : goal.byte_at-protocol-requires
-byte_at-protocol-requires c = let known = (packet_known (goal.at.byte_at-protocol-requires c).In-Whole).spans in
+byte_at-protocol-requires c = let known = (packet_known (goal.at.byte_at-protocol-requires c).In-Some).spans in
     omega arith
 
 pub slice_bounds-fill-count : goal.slice_bounds-fill-count
-slice_bounds-fill-count c = (packet_known (goal.at.slice_bounds-fill-count c).In-Whole).spans.order
+slice_bounds-fill-count c = (packet_known (goal.at.slice_bounds-fill-count c).In-Some).spans.order
 
 pub slice_bounds-fill-start : goal.slice_bounds-fill-start
-slice_bounds-fill-start c = (packet_known (goal.at.slice_bounds-fill-start c).In-Whole).spans.order
+slice_bounds-fill-start c = (packet_known (goal.at.slice_bounds-fill-start c).In-Some).spans.order
 
 pub slice_bounds-fill-end : goal.slice_bounds-fill-end
-slice_bounds-fill-end c = (packet_known (goal.at.slice_bounds-fill-end c).In-Whole).spans.inside
+slice_bounds-fill-end c = (packet_known (goal.at.slice_bounds-fill-end c).In-Some).spans.inside
 
 pub returns : goal.returns
 unfolding protocol
-returns c = let known = packet_known (goal.at.returns c).In-Whole in
+returns c = let known = packet_known (goal.at.returns c).In-Some in
     rw (known.has, known.same, ← c.byte_at-protocol.ensures) c.fill.ensures
