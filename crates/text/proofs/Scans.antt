@@ -10,13 +10,13 @@ use mathlib.Core.List.{List, [], ◌∷◌, ◌++◌, append_assoc, append-nil}
 use native.Mathlib.Omega.{arith}
 use native.Mathlib.Nat.{le_refl}
 use lib.Dec.{leb}
-use borrow.Author.Tests.{leb-true, leb-false, lt-leb}
+use borrow.Author.Tests.{leb-false, lt-leb}
+use Rattle.std.specs.Prelude.{Option, None, Some, Result, Ok, Err}
+use Rattle.refusals.specs.declared.Refusal.{Refusal}
 use Rattle.text.specs.Text.{max_word, separates, runs, onto, nonempty, items, is_digit, digits_only, spelled, decimal, is_number, all_numbers, numbers}
 use Rattle.text.specs.inner.Steps.{more, step}
-use Rattle.text.specs.declared.Place.{Place}
-use Rattle.text.specs.declared.Place.TheVariants.{Between, Inside}
 use Rattle.text.specs.declared.Step.{Step}
-use Rattle.text.specs.declared.Step.TheVariants.{Skip, Digit, Word, Wrong}
+use Rattle.text.specs.declared.Step.TheVariants.{Skip, Digit, Word}
 
 pub record Scan : Type 0 where
   pub words : List ℕ
@@ -28,20 +28,20 @@ push v s = record { words = v ∷ s.words; right = s.right }
 abbrev pub wrong : Scan
 wrong = record { words = []; right = false }
 
-abbrev pub finish : Place → Scan
-finish Between = record { words = []; right = true }
-finish (Inside v) = record { words = v ∷ []; right = true }
+abbrev pub finish : Option ℕ → Scan
+finish None = record { words = []; right = true }
+finish (Some v) = record { words = v ∷ []; right = true }
 
 -- `on` is what the bytes behind this one give from a place on.
-abbrev pub after : Step → (Place → Scan) → Scan
-after Skip on = on Between
-after (Digit v) on = on (Inside v)
-after (Word v) on = push v (on Between)
-after Wrong on = wrong
+abbrev pub after : Result Step Refusal → (Option ℕ → Scan) → Scan
+after (Ok Skip) on = on None
+after (Ok (Digit v)) on = on (Some v)
+after (Ok (Word v)) on = push v (on None)
+after (Err r) on = wrong
 
-unfoldable pub scan : Place → List ℕ → Scan
+unfoldable pub scan : Option ℕ → List ℕ → Scan
 scan p [] = finish p
-scan p (b ∷ bs) = after (step p b) (λ (q : Place). scan q bs)
+scan p (b ∷ bs) = after (step p b) (λ (q : Option ℕ). scan q bs)
 
 abbrev pub judged : List (List ℕ) → Scan
 judged is = record { words = numbers is; right = all_numbers is }
@@ -103,10 +103,6 @@ value_more : (p : List ℕ) (b : ℕ) → decimal (p ++ (b ∷ [])) ≡ decimal 
 unfolding decimal spelled
 value_more p b = spelled_append 0 p (b ∷ [])
 
-pub digit_least : (b : ℕ) → is_digit b ≡ true → 48 ≤ b
-unfolding is_digit
-digit_least b e = leb-true 48 b ((and-eq-true_iff (leb 48 b) (leb b 57)).0 e).0
-
 number_none : is_number [] ≡ true
 unfolding is_number digits_only decimal spelled
 number_none = refl
@@ -138,12 +134,12 @@ value_wrong p b r l =
 abbrev Inner : List ℕ → Type 0
 Inner bs =
     (p : List ℕ) (b : ℕ) → is_number (p ++ (b ∷ [])) ≡ true →
-    scan (Inside (decimal (p ++ (b ∷ [])))) bs ≡ judged (nonempty ((p ++ (b ∷ []) ++ first (runs bs)) ∷ others (runs bs)))
+    scan (Some (decimal (p ++ (b ∷ [])))) bs ≡ judged (nonempty ((p ++ (b ∷ []) ++ first (runs bs)) ∷ others (runs bs)))
 
 -- One byte that is no separator, behind the bytes p of an item that are a number, or no bytes.
 module _ (bs : List ℕ) (ih : Inner bs) (p : List ℕ) (b : ℕ) (n : is_number p ≡ true) where
   item_byte :
-      after (more (decimal p) b) (λ (q : Place). scan q bs) ≡
+      after (more (decimal p) b) (λ (q : Option ℕ). scan q bs) ≡
       judged (nonempty ((p ++ (b ∷ []) ++ first (runs bs)) ∷ others (runs bs)))
   unfolding more
   item_byte =
@@ -157,7 +153,7 @@ module _ (bs : List ℕ) (ih : Inner bs) (p : List ℕ) (b : ℕ) (n : is_number
       rw (d, l, judged_wrong _ (nonempty (others (runs bs))) (value_wrong p b (first (runs bs)) l))))
       (λ (d : is_digit b ≡ false). rw (d, judged_wrong _ (nonempty (others (runs bs))) (digits_wrong p b (first (runs bs)) d))))
 
-scan_none : scan Between [] ≡ judged (items [])
+scan_none : scan None [] ≡ judged (items [])
 unfolding scan runs nonempty items numbers all_numbers
 scan_none = refl
 
@@ -167,28 +163,28 @@ inner_end p b n =
     rw (nonempty_kept p b [] [], append-nil (p ++ (b ∷ [])), judged_number (p ++ (b ∷ [])) (nonempty []) n)
 
 module _ (b : ℕ) (bs : List ℕ) where
-  blank_apart : separates b ≡ true → scan Between bs ≡ judged (items bs) → scan Between (b ∷ bs) ≡ judged (items (b ∷ bs))
+  blank_apart : separates b ≡ true → scan None bs ≡ judged (items bs) → scan None (b ∷ bs) ≡ judged (items (b ∷ bs))
   unfolding scan runs items nonempty step
   blank_apart s h = rw s h
 
-  blank_inside : separates b ≡ true → scan Between bs ≡ judged (items bs) → (p : List ℕ) (a : ℕ) → is_number (p ++ (a ∷ [])) ≡ true →
-      scan (Inside (decimal (p ++ (a ∷ [])))) (b ∷ bs) ≡ judged (nonempty ((p ++ (a ∷ []) ++ first (runs (b ∷ bs))) ∷ others (runs (b ∷ bs))))
+  blank_inside : separates b ≡ true → scan None bs ≡ judged (items bs) → (p : List ℕ) (a : ℕ) → is_number (p ++ (a ∷ [])) ≡ true →
+      scan (Some (decimal (p ++ (a ∷ [])))) (b ∷ bs) ≡ judged (nonempty ((p ++ (a ∷ []) ++ first (runs (b ∷ bs))) ∷ others (runs (b ∷ bs))))
   unfolding scan runs items step
   blank_inside s h p a n =
       rw (s, nonempty_kept p a [] (runs bs), append-nil (p ++ (a ∷ [])), judged_number (p ++ (a ∷ [])) (nonempty (runs bs)) n, h)
 
-  byte_apart : separates b ≡ false → Inner bs → scan Between (b ∷ bs) ≡ judged (items (b ∷ bs))
+  byte_apart : separates b ≡ false → Inner bs → scan None (b ∷ bs) ≡ judged (items (b ∷ bs))
   unfolding scan runs items step decimal spelled
   byte_apart s h = rw (s, onto_first b (runs bs)) (item_byte bs h [] b number_none)
 
   byte_inside : separates b ≡ false → Inner bs → (p : List ℕ) (a : ℕ) → is_number (p ++ (a ∷ [])) ≡ true →
-      scan (Inside (decimal (p ++ (a ∷ [])))) (b ∷ bs) ≡ judged (nonempty ((p ++ (a ∷ []) ++ first (runs (b ∷ bs))) ∷ others (runs (b ∷ bs))))
+      scan (Some (decimal (p ++ (a ∷ [])))) (b ∷ bs) ≡ judged (nonempty ((p ++ (a ∷ []) ++ first (runs (b ∷ bs))) ∷ others (runs (b ∷ bs))))
   unfolding scan runs step
   byte_inside s h p a n =
       rw (s, onto_first b (runs bs), ← append_assoc (p ++ (a ∷ [])) (b ∷ []) (first (runs bs)))
       (item_byte bs h (p ++ (a ∷ [])) b n)
 
-scan_both : (bs : List ℕ) → (scan Between bs ≡ judged (items bs)) × Inner bs
+scan_both : (bs : List ℕ) → (scan None bs ≡ judged (items bs)) × Inner bs
 unfolding scan runs items
 scan_both [] = (scan_none, inner_end)
 scan_both (b ∷ bs) =
@@ -198,5 +194,5 @@ scan_both (b ∷ bs) =
           on_bool (separates b) (λ (s : separates b ≡ true). blank_inside b bs s ih.0 p a n) (λ (s : separates b ≡ false). byte_inside b bs s ih.1 p a n),
     )
 
-pub scan_text : (t : List ℕ) → scan Between t ≡ judged (items t)
+pub scan_text : (t : List ℕ) → scan None t ≡ judged (items t)
 scan_text t = (scan_both t).0

@@ -9,12 +9,12 @@
 --   too_long t          more bytes than max_text
 --   readable t         refusal 14 is not met: the text is not too long, and every item is a number
 --   words_of t          the numbers of the items before the first that is no number; none of a text that is too long
---   text_refusal        14
---   read_of t           the answer to a text
+--   text_refusal        refusal 14
+--   read_of t           the answer to a text: so many words, or the refusal
 --   Reads              what reading a text leaves in the lent words
-use Rattle.std.specs.Prelude.{ℕ, ◌+◌, ◌-◌, ◌*◌, ◌≡◌, Bool, true, cond, not, ◌&&◌, ◌||◌, List, [], ◌∷◌, ◌++◌, leb, ltb, eqb, length, drop}
-use Rattle.text.specs.declared.Read.{Read}
-use Rattle.text.specs.declared.Read.TheVariants.{Words, Refused}
+use Rattle.std.specs.Prelude.{ℕ, ◌+◌, ◌-◌, ◌*◌, ◌≡◌, Bool, true, cond, not, ◌&&◌, ◌||◌, List, [], ◌∷◌, ◌++◌, leb, ltb, eqb, length, drop, Result, Ok, Err}
+use Rattle.refusals.specs.declared.Refusal.{Refusal}
+use Rattle.refusals.specs.declared.Refusal.TheVariants as R
 
 abbrev pub max_text : ℕ
 max_text = 16384
@@ -78,13 +78,13 @@ readable t = not (too_long t) && all_numbers (items t)
 unfoldable pub words_of : List ℕ → List ℕ
 words_of t = cond (too_long t) [] (numbers (items t))
 
-abbrev pub text_refusal : ℕ
-text_refusal = 14
+abbrev pub text_refusal : Refusal
+text_refusal = R.Text
 
-unfoldable pub read_of : List ℕ → Read
-read_of t = cond (readable t) (Words (length (words_of t))) Refused
+unfoldable pub read_of : List ℕ → Result ℕ Refusal
+read_of t = cond (readable t) (Ok (length (words_of t))) (Err text_refusal)
 
 -- The words of the text stand first, and the words behind them are as before.
-pub record Reads (t before after : List ℕ) (r : Read) : Type 0 where
+pub record Reads (t before after : List ℕ) (r : Result ℕ Refusal) : Type 0 where
   pub answer : r ≡ read_of t
   pub words : after ≡ words_of t ++ drop (length (words_of t)) before

@@ -2,133 +2,94 @@
 #![tactic(auto)]
 
 ghost use Rattle.std.specs.Prelude.{◌≡◌, ◌≤◌, length};
-ghost use Rattle.text.specs.Text.{max_text, separates, is_digit, Reads};
+ghost use Rattle.text.specs.Text.{max_text, separates, Reads};
 ghost use Rattle.text.specs.inner.Items.{max_items};
-ghost use Rattle.text.specs.inner.Steps.{spelled_at, ended, more, step};
+ghost use Rattle.text.specs.inner.Steps.{more, step};
 
-// What a text comes to: so many words, or refusal 14.
-#[derive(Clone, Copy)]
-pub enum Read {
-    Words(usize),
-    Refused,
-}
+use refusals::Refusal;
 
-// Where the reading stands: between items, or inside one, with the number that its bytes spell so far.
-#[derive(Clone, Copy)]
-pub enum Place {
-    Between,
-    Inside(u32),
-}
+// The most bytes of a text.
+pub const MAX_TEXT: usize = 16384;
 
-// What a byte does: it leaves the reading at a place, ends an item, or shows that the item is no number.
+// The most words that it can have.
+pub const MAX_ITEMS: usize = 8192;
+
+// What a byte does: it leaves the reading between items, or inside one with the number that its bytes spell so far, or ends an item.
 #[derive(Clone, Copy)]
-pub enum Step {
+enum Step {
     Skip,
     Digit(u32),
     Word(u32),
-    Wrong,
 }
 
+// Whether a byte stands between items.
+#[tactic(auto, unfolding(crate::specs::Text::separates))]
 fn is_separator(byte: u8) -> bool
     ensures { result ≡ separates byte }
 {
-    (byte == 32) | (byte == 10)
-}
-
-fn is_digit(byte: u8) -> bool
-    ensures { result ≡ is_digit byte }
-{
-    (48 <= byte) & (byte <= 57)
-}
-
-// The number so far: an item's first digit goes behind nothing, which counts 0.
-fn value_at(place: Place) -> u32
-    ensures { result ≡ spelled_at place }
-{
-    match place {
-        Place::Between => 0,
-        Place::Inside(value) => value,
-    }
-}
-
-fn ended_at(place: Place) -> Step
-    ensures { result ≡ ended place }
-{
-    match place {
-        Place::Between => Step::Skip,
-        Place::Inside(value) => Step::Word(value),
-    }
+    byte == b' ' || byte == b'\n'
 }
 
 // One more byte of an item. The sum is made in 64 bits, where it can't wrap.
-fn more_of(value: u32, byte: u8) -> Step
+#[tactic(auto, unfolding(crate::specs::inner::Steps::more, crate::specs::Text::is_digit))]
+fn more_of(value: u32, byte: u8) -> Result<Step, Refusal>
     ensures { result ≡ more value byte }
 {
-    if !is_digit(byte) {
-        return Step::Wrong;
+    if !byte.is_ascii_digit() {
+        return Err(Refusal::Text);
     }
-    let longer = value as u64 * 10 + (byte - 48) as u64;
-    if longer <= 4294967295 {
-        Step::Digit(longer as u32)
-    } else {
-        Step::Wrong
+    let longer = u64::from(value) * 10 + u64::from(byte - b'0');
+    match u32::try_from(longer) {
+        Ok(value) => Ok(Step::Digit(value)),
+        Err(_) => Err(Refusal::Text),
     }
 }
 
-fn step_by(place: Place, byte: u8) -> Step
+// What a byte does at a place: behind the bytes of an item that spell a number, or between items. An item's first digit goes behind 0.
+#[tactic(auto, unfolding(crate::specs::inner::Steps::step))]
+fn step_by(place: Option<u32>, byte: u8) -> Result<Step, Refusal>
     ensures { result ≡ step place byte }
 {
     if is_separator(byte) {
-        return ended_at(place);
+        return Ok(place.map_or(Step::Skip, Step::Word));
     }
-    more_of(value_at(place), byte)
+    more_of(place.unwrap_or(0), byte)
 }
 
 // The items of a text that is not too long. There are at most 8,192, since a separator stands between two.
-fn read_items(text: &[u8], words: &mut [u32]) -> Read
+fn read_items(text: &[u8], words: &mut [u32]) -> Result<usize, Refusal>
     requires short { length text.now ≤ max_text }
     requires room { max_items ≤ length words.old }
     ensures { Reads text.now words.old words.new result }
 {
-    let mut count: usize = 0;
-    let mut place = Place::Between;
-    let mut i = 0;
-    while i < text.len() {
-        let byte = text[i];
-        i += 1;
-        match step_by(place, byte) {
-            Step::Skip => {
-                place = Place::Between;
-                continue;
-            }
-            Step::Digit(value) => {
-                place = Place::Inside(value);
-                continue;
-            }
+    let mut count = 0;
+    let mut place = None;
+    for &byte in text {
+        let step = step_by(place, byte)?;
+        place = match step {
+            Step::Skip => None,
+            Step::Digit(value) => Some(value),
             Step::Word(value) => {
                 words[count] = value;
                 count += 1;
-                place = Place::Between;
-                continue;
+                None
             }
-            Step::Wrong => return Read::Refused,
-        }
+        };
     }
-    match place {
-        Place::Between => Read::Words(count),
-        Place::Inside(value) => {
-            words[count] = value;
-            Read::Words(count + 1)
-        }
-    }
+    let Some(value) = place else {
+        return Ok(count);
+    };
+    words[count] = value;
+    Ok(count + 1)
 }
 
 // Reads a text's items into the words; the words behind them stay as they are.
-pub fn read_words(text: &[u8], words: &mut [u32; 8192]) -> Read
+pub fn read_words(text: &[u8], words: &mut [u32; MAX_ITEMS]) -> Result<usize, Refusal>
     ensures { Reads text.now words.old words.new result }
 {
-    if 16384 < text.len() {
-        return Read::Refused;
+    let is_too_long = MAX_TEXT < text.len();
+    if is_too_long {
+        return Err(Refusal::Text);
     }
     read_items(text, words)
 }

@@ -1,62 +1,30 @@
--- `text::read_items` meets its contract. The loop's invariant: the words stored and the scan of the bytes left are the scan of the text,
--- and each word stored took two bytes, so that there is room for the next. The measure is the number of bytes left.
+-- `text::read_items` meets its contract: what each byte does keeps the invariant, and at the text's end an item may still be open.
 -- Assumes nothing.
-use Prim.Native.Nat.{◌<◌}
-use mathlib.Core.Path.{sym, ◌∙◌}
-use native.Mathlib.Omega.{arith}
-use Rattle.text.specs.inner.Items.{max_items}
-use Rattle.text.proofs.Turns.{begun, skipped, spelt, word_room, stored, wrong_read, ended_apart, last_room, ended_inside}
-use borrow.Author.Rules.{rules}
+use Rattle.std.proofs.Common.{sym, ◌∙◌, ap}
+use Rattle.std.proofs.lemmas.Result.{err_from_is_err_and}
+use Rattle.std.specs.Prelude.{Ok}
+use Rattle.text.proofs.Turns.{skipped, spelt, stored, wrong_read, ended_apart, ended_inside}
 use Rattle.text.proofs.read_items.Goals as goal
+use Rattle.text.proofs.read_items.Goals.{in-Skip, in-Digit, in-Word}
 
--- Where an item has ended, in the text or at its end, there is room for its word.
-room_here : (c : goal.In-Word) → c.loop-i.count < max_items
-room_here c =
-    word_room _ _ _ _ _ _ c.loop-i.invariant _ c.loop-i-test.true
-    (sym c.step_by.ensures ∙ c.in-Word.is)
+pub loop-byte-preserved : goal.loop-byte-preserved
+loop-byte-preserved c =
+    let read = c.loop-byte.invariant in
+    let there = c.loop-byte-test.true in
+    let does = sym c.in_ok-step.ensures in
+    elim c.match-step.branch [
+      | in-Skip w ↦ rw (w.words-is, w.count-is, w.place-is) (skipped _ _ _ _ _ _ read there (does ∙ ap Ok w.in-Skip.is))
+      | in-Digit w ↦ rw (w.words-is, w.count-is, w.place-is) (spelt _ _ _ _ _ _ read _ there (does ∙ ap Ok w.in-Digit.is))
+      | in-Word w ↦ rw (w.words-is, w.count-is, w.place-is) (stored _ _ _ _ _ _ read _ there (does ∙ ap Ok w.in-Word.is))
+    ]
 
-room_last : (c : goal.In-Inside) → c.loop-i.count < max_items
-room_last c = last_room _ _ _ _ _ _ c.loop-i.invariant _ c.in-Inside.is
+pub returns-in_err-step : goal.returns-in_err-step
+returns-in_err-step c =
+    let p = err_from_is_err_and c.from_residual.result c.from_residual.ensures.1 in
+    rw (p.1, p.2) (wrong_read _ _ _ _ _ _ c.loop-byte.invariant _ c.loop-byte-test.true (sym c.in_err-step.ensures))
 
-pub loop-i-init : goal.loop-i-init
-loop-i-init c = begun _ _ (search rules) (search rules)
+pub returns-in_default : goal.returns-in_default
+returns-in_default c = ended_apart _ _ _ _ _ _ c.loop-byte.invariant c.loop-byte-test.false c.in_default.is
 
-pub loop-i-preserved-in-Skip : goal.loop-i-preserved-in-Skip
-loop-i-preserved-in-Skip c = skipped _ _ _ _ _ _ c.loop-i.invariant c.loop-i-test.true
-    (sym c.step_by.ensures ∙ c.in-Skip.is)
-
-pub loop-i-preserved-in-Digit : goal.loop-i-preserved-in-Digit
-loop-i-preserved-in-Digit c = spelt _ _ _ _ _ _ c.loop-i.invariant _ c.loop-i-test.true
-    (sym c.step_by.ensures ∙ c.in-Digit.is)
-
-pub offset_bounds-words-count : goal.offset_bounds-words-count
-offset_bounds-words-count c = omega (arith, room_here c)
-
-pub bounds-words-count : goal.bounds-words-count
-bounds-words-count c = omega (arith, room_here c)
-
-pub overflow_add-count : goal.overflow_add-count
-overflow_add-count c = omega (arith, room_here c)
-
-pub loop-i-preserved : goal.loop-i-preserved
-loop-i-preserved c = stored _ _ _ _ _ _ c.loop-i.invariant _ c.loop-i-test.true
-    (sym c.step_by.ensures ∙ c.in-Word.is)
-
-pub returns-in-Wrong : goal.returns-in-Wrong
-returns-in-Wrong c = wrong_read _ _ _ _ _ _ c.loop-i.invariant c.loop-i-test.true
-    (sym c.step_by.ensures ∙ c.in-Wrong.is)
-
-pub offset_bounds-words-count-in-Inside : goal.offset_bounds-words-count-in-Inside
-offset_bounds-words-count-in-Inside c = omega (arith, room_last c)
-
-pub bounds-words-count-in-Inside : goal.bounds-words-count-in-Inside
-bounds-words-count-in-Inside c = omega (arith, room_last c)
-
-pub overflow_add-result : goal.overflow_add-result
-overflow_add-result c = omega (arith, room_last c)
-
-pub returns-in-Between : goal.returns-in-Between
-returns-in-Between c = ended_apart _ _ _ _ _ _ c.loop-i.invariant c.loop-i-test.false c.in-Between.is
-
-pub returns-in-Inside : goal.returns-in-Inside
-returns-in-Inside c = ended_inside _ _ _ _ _ _ c.loop-i.invariant _ c.loop-i-test.false c.in-Inside.is
+pub returns : goal.returns
+returns c = ended_inside _ _ _ _ _ _ c.loop-byte.invariant _ c.loop-byte-test.false c.in-Some.is

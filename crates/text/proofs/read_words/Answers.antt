@@ -3,5 +3,5 @@
 use Rattle.text.proofs.Turns.{too_long_lem}
 use Rattle.text.proofs.read_words.Goals as goal
 
-pub returns-then-text-gt16384 : goal.returns-then-text-gt16384
-returns-then-text-gt16384 c = too_long_lem _ _ c.if-text-gt16384.true
+pub returns-then-is_too_long : goal.returns-then-is_too_long
+returns-then-is_too_long c = too_long_lem _ _ c.if-is_too_long.true

@@ -8,13 +8,12 @@
 --   reads_fit          the words that an answer counts lie within the words lent
 --   reads_first        and there they stand first
 --   tried              the edges of refusal 14, one list of cases
-use Rattle.std.specs.Prelude.{ℕ, suc, ◌≤◌, ◌≡◌, refl, Bool, true, false, cond, not, ◌&&◌, List, [], ◌∷◌, ◌++◌, length, take, replicate}
+use Rattle.std.specs.Prelude.{ℕ, ◌≤◌, ◌≡◌, refl, Bool, true, false, cond, not, ◌&&◌, List, [], ◌∷◌, ◌++◌, length, take, replicate, Result, Ok, Err}
 use Rattle.std.proofs.Common.{sym, ap, ◌∙◌, arith, length-append, take_at}
 use Rattle.std.proofs.Math.Bool.{and-eq-true_iff}
 use Rattle.std.proofs.lemmas.Bool.{not-true}
-use Rattle.text.specs.Text.{separates, onto, runs, nonempty, items, is_digit, digits_only, spelled, decimal, is_number, all_numbers, numbers, too_long, readable, words_of, read_of, Reads}
-use Rattle.text.specs.declared.Read.{Read}
-use Rattle.text.specs.declared.Read.TheVariants.{Words, Refused}
+use Rattle.refusals.specs.declared.Refusal.{Refusal}
+use Rattle.text.specs.Text.{separates, onto, runs, nonempty, items, is_digit, digits_only, spelled, decimal, is_number, all_numbers, numbers, too_long, readable, words_of, text_refusal, read_of, Reads}
 
 -- No byte of the run is a separator.
 unfoldable pub unbroken : List ℕ → Bool
@@ -48,31 +47,26 @@ pub items_last : (b : ℕ) (r : List ℕ) → unbroken (b ∷ r) ≡ true → it
 unfolding items nonempty
 items_last b r u = rw (runs_last (b ∷ r) u)
 
-pub reads_one : (t before : List ℕ) {a b : List ℕ} {r s : Read} → Reads t before a r → Reads t before b s → (a ≡ b) × (r ≡ s)
+pub reads_one : (t before : List ℕ) {a b : List ℕ} {r s : Result ℕ Refusal} → Reads t before a r → Reads t before b s → (a ≡ b) × (r ≡ s)
 reads_one t before {r = r} {s = s} p q = (p.words ∙ sym q.words, p.answer ∙ sym q.answer)
 
--- 0 for the refusal, and one more than the words counted.
-abbrev one_more : Read → ℕ
-one_more (Words n) = suc n
-one_more Refused = 0
+refused_by : (a : Bool) (m : ℕ) (r : Result ℕ Refusal) → r ≡ cond a (Ok m) (Err text_refusal) → r ≡ Err text_refusal → a ≡ false
+refused_by true m r p e = cc
+refused_by false m r p e = refl
 
-refused_by : (a : Bool) (m : ℕ) → Refused ≡ cond a (Words m) Refused → a ≡ false
-refused_by true m e = absurd (omega (arith, ap one_more e))
-refused_by false m e = refl
+counted_by : (a : Bool) (m n : ℕ) (r : Result ℕ Refusal) → r ≡ cond a (Ok m) (Err text_refusal) → r ≡ Ok n → (a ≡ true) × (m ≡ n)
+counted_by true m n r p e = (refl, cc)
+counted_by false m n r p e = cc
 
-counted_by : (a : Bool) (m n : ℕ) → Words n ≡ cond a (Words m) Refused → (a ≡ true) × (m ≡ n)
-counted_by true m n e = (refl, omega (arith, ap one_more e))
-counted_by false m n e = absurd (omega (arith, ap one_more e))
-
-module _ {t before after : List ℕ} {r : Read} (p : Reads t before after r) where
-  pub reads_refused : r ≡ Refused → readable t ≡ false
+module _ {t before after : List ℕ} {r : Result ℕ Refusal} (p : Reads t before after r) where
+  pub reads_refused : r ≡ Err text_refusal → readable t ≡ false
   unfolding read_of
-  reads_refused e = refused_by (readable t) (length (words_of t)) (sym e ∙ p.answer)
+  reads_refused e = refused_by (readable t) (length (words_of t)) r p.answer e
 
-  module _ (n : ℕ) (e : r ≡ Words n) where
+  module _ (n : ℕ) (e : r ≡ Ok n) where
     counted_so : (readable t ≡ true) × (length (words_of t) ≡ n)
     unfolding read_of
-    counted_so = counted_by (readable t) (length (words_of t)) n (sym e ∙ p.answer)
+    counted_so = counted_by (readable t) (length (words_of t)) n r p.answer e
 
     pub reads_accepted : readable t ≡ true
     reads_accepted = counted_so.0
@@ -86,17 +80,17 @@ module _ {t before after : List ℕ} {r : Read} (p : Reads t before after r) whe
 -- ` 007\n4294967295 ` has two words; 4294967296, a tab, a carriage return and a sign are refused; no text and blank text are the empty list.
 abbrev pub Tried : Type 0
 Tried =
-    (read_of (32 ∷ 48 ∷ 48 ∷ 55 ∷ 10 ∷ 10 ∷ 52 ∷ 50 ∷ 57 ∷ 52 ∷ 57 ∷ 54 ∷ 55 ∷ 50 ∷ 57 ∷ 53 ∷ 32 ∷ []) ≡ Words 2) ×
+    (read_of (32 ∷ 48 ∷ 48 ∷ 55 ∷ 10 ∷ 10 ∷ 52 ∷ 50 ∷ 57 ∷ 52 ∷ 57 ∷ 54 ∷ 55 ∷ 50 ∷ 57 ∷ 53 ∷ 32 ∷ []) ≡ Ok 2) ×
     (words_of (32 ∷ 48 ∷ 48 ∷ 55 ∷ 10 ∷ 10 ∷ 52 ∷ 50 ∷ 57 ∷ 52 ∷ 57 ∷ 54 ∷ 55 ∷ 50 ∷ 57 ∷ 53 ∷ 32 ∷ []) ≡ 7 ∷ 4294967295 ∷ []) ×
-    (read_of (52 ∷ 50 ∷ 57 ∷ 52 ∷ 57 ∷ 54 ∷ 55 ∷ 50 ∷ 57 ∷ 54 ∷ []) ≡ Refused) ×
-    (read_of (49 ∷ 9 ∷ 50 ∷ []) ≡ Refused) ×
-    (read_of (49 ∷ 13 ∷ 10 ∷ []) ≡ Refused) ×
-    (read_of (43 ∷ 49 ∷ []) ≡ Refused) ×
-    (read_of [] ≡ Words 0) ×
-    (read_of (32 ∷ 10 ∷ 32 ∷ []) ≡ Words 0) ×
-    (read_of (replicate 30 48) ≡ Words 1) ×
-    (read_of (replicate 16384 32) ≡ Words 0) ×
-    (read_of (replicate 16385 32) ≡ Refused)
+    (read_of (52 ∷ 50 ∷ 57 ∷ 52 ∷ 57 ∷ 54 ∷ 55 ∷ 50 ∷ 57 ∷ 54 ∷ []) ≡ Err text_refusal) ×
+    (read_of (49 ∷ 9 ∷ 50 ∷ []) ≡ Err text_refusal) ×
+    (read_of (49 ∷ 13 ∷ 10 ∷ []) ≡ Err text_refusal) ×
+    (read_of (43 ∷ 49 ∷ []) ≡ Err text_refusal) ×
+    (read_of [] ≡ Ok 0) ×
+    (read_of (32 ∷ 10 ∷ 32 ∷ []) ≡ Ok 0) ×
+    (read_of (replicate 30 48) ≡ Ok 1) ×
+    (read_of (replicate 16384 32) ≡ Ok 0) ×
+    (read_of (replicate 16385 32) ≡ Err text_refusal)
 
 pub tried : Tried
 unfolding read_of readable too_long words_of all_numbers numbers items nonempty runs onto separates is_number digits_only is_digit decimal spelled
