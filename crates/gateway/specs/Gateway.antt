@@ -7,7 +7,8 @@
 --   judged f p t m vs d ts  the frame f, which came in at box port p, judged by the table t of m states, the verdict table vs,
 --                           the standing verdict d and the tallies ts
 --   emptied ts              the tallies after a clearing
-use Rattle.std.specs.Prelude.{ℕ, zero, suc, ◌+◌, ◌*◌, Bool, true, cond, not, ◌&&◌, List, [], ◌∷◌, leb, eqb, length, get_or, set, replicate}
+use Rattle.std.specs.Prelude.{ℕ, zero, suc, ◌+◌, ◌*◌, Bool, cond, not, ◌&&◌, List, leb, eqb, length, get_or, set, replicate}
+use Rattle.std.specs.List.{list_all}
 use Rattle.sets.specs.Sets.{member}
 use Rattle.lists.specs.Filters.{max_filters, max_tests}
 use Rattle.matcher.specs.declared.Answer.{Answer}
@@ -37,8 +38,7 @@ unfoldable pub lowest_of : ℕ → ℕ
 lowest_of s = lowest_from max_filters 0 s
 
 unfoldable pub all_verdicts : List ℕ → Bool
-all_verdicts [] = true
-all_verdicts (v ∷ vs) = leb v divert && all_verdicts vs
+all_verdicts vs = list_all (λ v. leb v divert) vs
 
 -- A verdict table and a standing verdict that are not refused.
 unfoldable pub verdicts_fit : List ℕ → ℕ → Bool

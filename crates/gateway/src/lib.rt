@@ -22,7 +22,7 @@ pub const DROP: u32 = 1;
 pub const DIVERT: u32 = 2;
 
 // A tally that cannot be counted up.
-const FULL: u32 = 4294967295;
+const FULL: u32 = u32::MAX;
 
 // What judging a frame comes to: its verdict, or a refusal's number.
 #[derive(Clone, Copy)]
@@ -41,44 +41,30 @@ fn lowest_of(set: Set) -> u32
 }
 
 // Whether each entry of a verdict table is a verdict.
+#[tactic(auto, unfolding(crate::specs::Gateway::all_verdicts))]
 fn all_verdicts(verdicts: &[u32]) -> bool
     ensures { result ≡ all_verdicts verdicts.now }
 {
-    let mut i: usize = 0;
-    while i < verdicts.len() {
-        if DIVERT < verdicts[i] {
-            return false;
-        }
-        i += 1;
-    }
-    true
+    verdicts.iter().all(|verdict| *verdict <= DIVERT)
 }
 
 // Whether a verdict table has an entry for each filter, and it and the standing verdict have verdicts alone.
+#[tactic(auto, unfolding(crate::specs::Gateway::verdicts_fit))]
 fn verdicts_fit(verdicts: &[u32], standing: u32) -> bool
     ensures { result ≡ verdicts_fit verdicts.now standing }
 {
-    if verdicts.len() != MAX_FILTERS {
-        return false;
-    }
-    if DIVERT < standing {
-        return false;
-    }
-    all_verdicts(verdicts)
+    verdicts.len() == MAX_FILTERS && standing <= DIVERT && all_verdicts(verdicts)
 }
 
 // The verdict at a place of the table; the standing one behind its end.
 fn verdict_at(verdicts: &[u32], standing: u32, place: usize) -> u32
     ensures { result ≡ get_or verdicts.now place standing }
 {
-    if place < verdicts.len() {
-        verdicts[place]
-    } else {
-        standing
-    }
+    verdicts.get(place).copied().unwrap_or(standing)
 }
 
 // Counts the frame at a place and answers the verdict there. A full tally refuses the frame.
+#[tactic(auto, unfolding(crate::specs::Gateway::counted_at))]
 fn count_frame(place: usize, verdicts: &[u32], standing: u32, tallies: &mut [u32]) -> Judged
     requires { place < length tallies.old }
     ensures { judgement_of result tallies.new ≡ counted_at place verdicts.now standing tallies.old }
@@ -92,6 +78,7 @@ fn count_frame(place: usize, verdicts: &[u32], standing: u32, tallies: &mut [u32
 }
 
 // Judges a frame by what its walk came to. A walk that was stopped is refused.
+#[tactic(auto, using(crate::proofs::laws::Lowest::lowest_below), unfolding(crate::specs::Gateway::judged_by))]
 fn judge_walk(answer: Answer, verdicts: &[u32], standing: u32, tallies: &mut [u32]) -> Judged
     requires { length tallies.old ≡ tally_count }
     ensures { judgement_of result tallies.new ≡ judged_by answer verdicts.now standing tallies.old }
@@ -107,6 +94,7 @@ fn judge_walk(answer: Answer, verdicts: &[u32], standing: u32, tallies: &mut [u3
 
 // Judges a frame, which came in at a box port, by a table of so many states, a verdict for each filter and the standing verdict for
 // a frame that matches none. Counts it in the tally of the filter that gave the verdict, or in the last tally. A refusal changes no tally.
+#[tactic(auto, unfolding(crate::specs::Gateway::judged))]
 pub fn judge(
     frame: &[u8],
     port: u8,
@@ -121,17 +109,16 @@ pub fn judge(
     if tallies.len() != TALLIES {
         return Judged::Refused(24);
     }
-    if verdicts_fit(verdicts, standing) {
-        let answer = matcher::classify(frame, port, table, states, ALLOWANCE);
-        judge_walk(answer, verdicts, standing, tallies)
-    } else {
-        Judged::Refused(16)
+    if !verdicts_fit(verdicts, standing) {
+        return Judged::Refused(16);
     }
+    let answer = matcher::classify(frame, port, table, states, ALLOWANCE);
+    judge_walk(answer, verdicts, standing, tallies)
 }
 
 // Makes every tally 0. A room of any length will do.
 pub fn clear(tallies: &mut [u32])
     ensures { tallies.new ≡ emptied tallies.old }
 {
-    words::clear(tallies, tallies.len());
+    tallies.fill(0);
 }
