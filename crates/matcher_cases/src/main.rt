@@ -2,60 +2,10 @@
 // numbers of states that do not fit, sets in both halves, frames at the length limit. Prints how each walk ended and its numbers.
 #![tactic(auto)]
 
-ghost use Rattle.std.specs.Prelude.{◌≡◌, ◌<◌, ◌≤◌, length};
+ghost use Rattle.std.specs.Prelude.{◌≤◌, length};
 
-use matcher::{Answer, Found};
-use std::io;
-
-fn put_number(rt: &impl Print, n: u64) -> io::Result<()> {
-    rt.write_all(b" ")?;
-    rt.print(n)
-}
-
-fn put_found(rt: &impl Print, found: Found) -> io::Result<()> {
-    put_number(rt, found.sure)?;
-    put_number(rt, found.out)?;
-    put_number(rt, found.asked as u64)?;
-    put_number(rt, found.cut as u64)?;
-    rt.write_all(b"\n")
-}
-
-fn put_refusal(rt: &impl Print, n: u32) -> io::Result<()> {
-    rt.write_all(b"refused")?;
-    put_number(rt, n as u64)?;
-    rt.write_all(b"\n")
-}
-
-fn put_done(rt: &impl Print, found: Found) -> io::Result<()> {
-    rt.write_all(b"done")?;
-    put_found(rt, found)
-}
-
-fn put_stopped(rt: &impl Print, found: Found) -> io::Result<()> {
-    rt.write_all(b"stopped")?;
-    put_found(rt, found)
-}
-
-fn put_answer(rt: &impl Print, a: Answer) -> io::Result<()> {
-    match a {
-        Answer::Done(found) => put_done(rt, found),
-        Answer::Stopped(found) => put_stopped(rt, found),
-        Answer::Refused(n) => put_refusal(rt, n),
-    }
-}
-
-fn run(
-    rt: &impl Print,
-    label: &[u8],
-    frame: &[u8],
-    table: &[u32],
-    states: u32,
-    allowance: u32,
-) -> io::Result<()> {
-    rt.write_all(label)?;
-    rt.write_all(b": ")?;
-    put_answer(rt, matcher::classify(frame, 3, table, states, allowance))
-}
+use matcher::Answer;
+use std::{fmt, io};
 
 // The table that document 01 prints.
 const ECHO: [u32; 110] = [
@@ -65,12 +15,6 @@ const ECHO: [u32; 110] = [
     1, 9, 7, 7, 0, 0, 3, 0, 0, 0, 0, 0, 0, 0, 0, 4, 0, 3, 0,
 ];
 
-fn echo_table() -> [u32; 110]
-    ensures { length result ≡ 110 }
-{
-    ECHO
-}
-
 // Three values of the time to live in a row: 9, 8, 1.
 const LIVES: [u32; 77] = [
     1, 4, 255, 9, 1, 2, 2, 0, 0, 0, 0, 0, 0, 0, 0, 0, 0, 0, 1, 0, 6, 0, 1, 4, 255, 8, 3, 4, 4, 0,
@@ -78,10 +22,25 @@ const LIVES: [u32; 77] = [
     0, 4, 0, 3, 0, 0, 0, 0, 0, 0, 0, 0, 0, 0, 7, 0,
 ];
 
-fn lives_table() -> [u32; 77]
-    ensures { length result ≡ 77 }
-{
-    LIVES
+// Prints a label, how the walk of a frame ended and its numbers.
+fn run<L: fmt::Display + Drop>(
+    rt: &impl Print,
+    label: L,
+    frame: &[u8],
+    table: &[u32],
+    states: u32,
+    allowance: u32,
+) -> io::Result<()> {
+    let (end, found) = match matcher::classify(frame, 3, table, states, allowance) {
+        Answer::Done(found) => ("done", found),
+        Answer::Stopped(found) => ("stopped", found),
+        Answer::Refused(number) => return println!(rt; "{label}: refused {number}"),
+    };
+    let cut = u8::from(found.cut);
+    println!(rt;
+        "{label}: {end} {} {} {} {cut}",
+        found.sure, found.out, found.asked
+    )
 }
 
 // An echo request with TTL 1 at the start of the bytes: IPv4, header of 20 bytes, 28 bytes in all, ICMP, type 8.
@@ -96,145 +55,125 @@ fn put_echo(frame: &mut [u8])
     frame[34] = 8;
 }
 
-fn allowances(rt: &impl Print, frame: &[u8], t: &[u32]) -> io::Result<()> {
-    run(rt, b"allowance 0", frame, t, 10, 0)?;
-    run(rt, b"allowance 1", frame, t, 10, 1)?;
-    run(rt, b"allowance 2", frame, t, 10, 2)?;
-    run(rt, b"allowance 3", frame, t, 10, 3)?;
-    run(rt, b"allowance 4294967295", frame, t, 10, 4294967295)
+fn allowances(rt: &impl Print, frame: &[u8]) -> io::Result<()> {
+    for allowance in [0, 1, 2, 3, u32::MAX] {
+        run(
+            rt,
+            format_args!("allowance {allowance}"),
+            frame,
+            &ECHO,
+            10,
+            allowance,
+        )?;
+    }
+    Ok(())
 }
 
-// Number of states 0, as many as there are slots, one more; and a prefix of the states that the walk leaves.
-fn numbers(rt: &impl Print, frame: &[u8], t: &[u32]) -> io::Result<()> {
-    run(rt, b"0 states", frame, t, 0, 9)?;
-    run(rt, b"11 states", frame, t, 11, 9)?;
-    run(rt, b"4097 states", frame, t, 4097, 9)?;
-    run(rt, b"4294967295 states", frame, t, 4294967295, 9)?;
-    run(rt, b"next 2 of 2 states, allowance 1", frame, t, 2, 1)?;
-    run(rt, b"next 2 of 2 states, allowance 2", frame, t, 2, 2)
+// Number of states 0, one more than there are slots, and more than any table has; and a prefix of the states that the walk leaves.
+fn numbers(rt: &impl Print, frame: &[u8]) -> io::Result<()> {
+    for states in [0, 11, 4097, u32::MAX] {
+        run(rt, format_args!("{states} states"), frame, &ECHO, states, 9)?;
+    }
+    for allowance in 1..3 {
+        let label = format_args!("next 2 of 2 states, allowance {allowance}");
+        run(rt, label, frame, &ECHO, 2, allowance)?;
+    }
+    Ok(())
 }
 
 // Slots are counted whole.
-fn short_tables(rt: &impl Print, frame: &[u8], t: &[u32]) -> io::Result<()> {
-    if t.len() < 110 {
-        return Ok(());
+fn short_tables(rt: &impl Print, frame: &[u8]) -> io::Result<()> {
+    for states in [10, 9] {
+        run(
+            rt,
+            format_args!("109 words, {states} states"),
+            frame,
+            &ECHO[..109],
+            states,
+            9,
+        )?;
     }
-    let most = &t[0..109];
-    run(rt, b"109 words, 10 states", frame, most, 10, 9)?;
-    run(rt, b"109 words, 9 states", frame, most, 9, 9)?;
-    let none = &t[0..0];
-    run(rt, b"no words, 1 state", frame, none, 1, 9)
+    run(rt, "no words, 1 state", frame, &[], 1, 9)
 }
 
-fn damaged_at(
-    rt: &impl Print,
-    label: &[u8],
-    frame: &[u8],
-    at: usize,
-    word: u32,
-    allowance: u32,
-) -> io::Result<()>
-    requires { at < 110 }
-{
-    let mut t = echo_table();
-    t[at] = word;
-    run(rt, label, frame, &t, 10, allowance)
-}
+// A word of the table is another, and the walk has an allowance: a record is checked when it is reached, before the allowance is; a
+// final record's field is not looked at. The second word of a set counts from filter 32 on, in a record that shows it at its end as
+// in one that a walk stops at.
+const DAMAGES: [(&str, usize, u32, u32); 13] = [
+    ("kind 5 in record 0, allowance 0", 0, 5, 0),
+    ("field 14 in record 0, allowance 0", 1, 14, 0),
+    ("kind 5 in record 1, allowance 0", 11, 5, 0),
+    ("kind 5 in record 1, allowance 1", 11, 5, 1),
+    ("field 14 in final record 2", 23, 14, 2),
+    ("next 10 in record 0, allowance 0", 4, 10, 0),
+    ("next 10 in record 0, allowance 1", 4, 10, 1),
+    ("next 10 in record 1, allowance 2", 15, 10, 2),
+    ("next 10 on a way not taken", 5, 10, 2),
+    ("record 0 leads to itself, allowance 7", 4, 0, 7),
+    ("filter 32 in the sure set of record 2", 30, 1, 2),
+    ("filter 63 in the out set of record 2", 32, 2147483648, 2),
+    ("filter 33 in the out set of record 1", 21, 2, 1),
+];
 
-// A record is checked when it is reached, before the allowance is; a final record's field is not looked at.
 fn damages(rt: &impl Print, frame: &[u8]) -> io::Result<()> {
-    damaged_at(rt, b"kind 5 in record 0, allowance 0", frame, 0, 5, 0)?;
-    damaged_at(rt, b"field 14 in record 0, allowance 0", frame, 1, 14, 0)?;
-    damaged_at(rt, b"kind 5 in record 1, allowance 0", frame, 11, 5, 0)?;
-    damaged_at(rt, b"kind 5 in record 1, allowance 1", frame, 11, 5, 1)?;
-    damaged_at(rt, b"field 14 in final record 2", frame, 23, 14, 2)?;
-    damaged_at(rt, b"next 10 in record 0, allowance 0", frame, 4, 10, 0)?;
-    damaged_at(rt, b"next 10 in record 0, allowance 1", frame, 4, 10, 1)?;
-    damaged_at(rt, b"next 10 in record 1, allowance 2", frame, 15, 10, 2)?;
-    damaged_at(rt, b"next 10 on a way not taken", frame, 5, 10, 2)?;
-    damaged_at(rt, b"record 0 leads to itself, allowance 7", frame, 4, 0, 7)
-}
-
-// The second word of a set counts from filter 32 on, in a record that shows it at its end as in one that a walk stops at.
-fn high_halves(rt: &impl Print, frame: &[u8]) -> io::Result<()> {
-    damaged_at(
-        rt,
-        b"filter 32 in the sure set of record 2",
-        frame,
-        30,
-        1,
-        2,
-    )?;
-    damaged_at(
-        rt,
-        b"filter 63 in the out set of record 2",
-        frame,
-        32,
-        2147483648,
-        2,
-    )?;
-    damaged_at(rt, b"filter 33 in the out set of record 1", frame, 21, 2, 1)
-}
-
-// Frames without fields, and at the greatest length.
-fn lengths(rt: &impl Print, frame: &[u8], t: &[u32]) -> io::Result<()> {
-    if frame.len() < 1523 {
-        return Ok(());
+    for (label, at, word, allowance) in DAMAGES {
+        let mut table = ECHO;
+        if let Some(old) = table.get_mut(at) {
+            *old = word;
+        }
+        run(rt, label, frame, &table, 10, allowance)?;
     }
-    let none = &frame[0..0];
-    run(rt, b"empty frame", none, t, 10, 9)?;
-    let bare = &frame[0..13];
-    run(rt, b"frame of 13 bytes", bare, t, 10, 9)?;
-    let ended = &frame[0..34];
-    run(rt, b"frame of 34 bytes, allowance 0", ended, t, 10, 0)?;
-    run(rt, b"frame of 34 bytes, allowance 1", ended, t, 10, 1)?;
-    run(rt, b"frame of 34 bytes, 8 states", ended, t, 8, 9)?;
-    let most = &frame[0..1522];
-    run(rt, b"frame of 1522 bytes", most, t, 10, 9)?;
-    run(rt, b"frame of 1523 bytes", frame, t, 10, 9)?;
-    run(rt, b"frame of 1523 bytes, 0 states", frame, t, 0, 9)
+    Ok(())
 }
 
 // Links of a chain count as questions, and each is checked.
-fn chains(rt: &impl Print, frame: &[u8], t: &[u32]) -> io::Result<()> {
-    run(rt, b"chain, allowance 0", frame, t, 7, 0)?;
-    run(rt, b"chain, allowance 1", frame, t, 7, 1)?;
-    run(rt, b"chain, allowance 2", frame, t, 7, 2)?;
-    run(rt, b"chain, allowance 3", frame, t, 7, 3)?;
-    run(
-        rt,
-        b"chain, next 4 of 4 states, allowance 1",
-        frame,
-        t,
-        4,
-        1,
-    )?;
-    run(
-        rt,
-        b"chain, next 4 of 4 states, allowance 2",
-        frame,
-        t,
-        4,
-        2,
-    )
+fn chains(rt: &impl Print, frame: &[u8]) -> io::Result<()> {
+    for allowance in 0..4 {
+        run(
+            rt,
+            format_args!("chain, allowance {allowance}"),
+            frame,
+            &LIVES,
+            7,
+            allowance,
+        )?;
+    }
+    for allowance in 1..3 {
+        let label = format_args!("chain, next 4 of 4 states, allowance {allowance}");
+        run(rt, label, frame, &LIVES, 4, allowance)?;
+    }
+    Ok(())
 }
 
-fn walks(rt: &impl Print, frame: &[u8], t: &[u32]) -> io::Result<()> {
-    allowances(rt, frame, t)?;
-    numbers(rt, frame, t)?;
-    short_tables(rt, frame, t)?;
-    damages(rt, frame)?;
-    high_halves(rt, frame)
+// Frames without fields, and at the greatest length: so many bytes, by so many states, with an allowance.
+const LENGTHS: [(&str, usize, u32, u32); 8] = [
+    ("empty frame", 0, 10, 9),
+    ("frame of 13 bytes", 13, 10, 9),
+    ("frame of 34 bytes, allowance 0", 34, 10, 0),
+    ("frame of 34 bytes, allowance 1", 34, 10, 1),
+    ("frame of 34 bytes, 8 states", 34, 8, 9),
+    ("frame of 1522 bytes", 1522, 10, 9),
+    ("frame of 1523 bytes", 1523, 10, 9),
+    ("frame of 1523 bytes, 0 states", 1523, 0, 9),
+];
+
+fn lengths(rt: &impl Print, frame: &[u8]) -> io::Result<()> {
+    for (label, length, states, allowance) in LENGTHS {
+        let part = frame.get(..length).unwrap_or(frame);
+        run(rt, label, part, &ECHO, states, allowance)?;
+    }
+    Ok(())
 }
 
 fn main(rt: HostRuntime) -> io::Result<()> {
-    let t = echo_table();
     let mut frame = [0u8; 42];
     put_echo(&mut frame);
-    walks(&rt, &frame, &t)?;
-    let lives = lives_table();
-    chains(&rt, &frame, &lives)?;
+    allowances(&rt, &frame)?;
+    numbers(&rt, &frame)?;
+    short_tables(&rt, &frame)?;
+    damages(&rt, &frame)?;
+    chains(&rt, &frame)?;
     let mut long = [0u8; 1523];
     put_echo(&mut long);
-    lengths(&rt, &long, &t)
+    lengths(&rt, &long)
 }
