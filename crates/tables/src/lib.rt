@@ -54,6 +54,7 @@ pub fn slots_of(words: usize) -> usize
 }
 
 // The place in a record of the next number at an outcome.
+#[tactic(auto, unfolding(crate::specs::Tables::next_at))]
 pub fn next_at(o: Outcome) -> usize
     ensures { result ≡ next_at o }
 {
@@ -65,6 +66,7 @@ pub fn next_at(o: Outcome) -> usize
 }
 
 // Puts the number that record n has at an outcome into the table.
+#[tactic(auto, using(crate::proofs::laws::Layout::next_within), unfolding(crate::specs::inner::Records::with_next))]
 pub fn put_next(table: &mut [u32], n: usize, o: Outcome, next: u32)
     requires { record_words * (n + 1) ≤ length table.old }
     ensures { table.new ≡ with_next n o next table.old }
@@ -74,6 +76,7 @@ pub fn put_next(table: &mut [u32], n: usize, o: Outcome, next: u32)
 }
 
 // Puts a set into the words from a place on, its low half first.
+#[tactic(auto, unfolding(crate::specs::inner::Records::put_set))]
 fn put_set(words: &mut [u32], at: usize, set: Set)
     requires { at + set_words ≤ length words.old }
     ensures { words.new ≡ put_set at set words.old }
@@ -101,6 +104,7 @@ pub fn write_fresh(words: &mut [u32], fresh: Fresh)
 }
 
 // The set that the words from a place on say.
+#[tactic(auto, unfolding(crate::specs::Tables::set_at))]
 pub fn set_at(words: &[u32], at: usize) -> Set
     requires { at + set_words ≤ length words.now }
     ensures { result ≡ set_at (λ j. get_or words.now j 0) at }
@@ -127,27 +131,13 @@ fn agrees(table: &[u32], n: usize, fresh: Fresh) -> bool
     test & (words[MASK_AT] == fresh.mask) & (words[VALUE_AT] == fresh.value)
 }
 
-// The first record from a place on, before an end, that agrees with a fresh one; the end where none does. Two records a turn, so that turning costs less than looking.
+// The first record from a place on, before an end, that agrees with a fresh one; the end where none does.
 pub fn agreeing(table: &[u32], from: usize, end: usize, fresh: Fresh) -> usize
     requires from_le_end { from ≤ end }
     requires end_in_bounds { record_words * end ≤ length table.now }
     ensures { result ≡ agreeing_from (end - from) from table.now (fresh_by fresh) }
 {
-    let mut at = from;
-    while 2 <= end - at {
-        if agrees(table, at, fresh) {
-            return at;
-        }
-        if agrees(table, at + 1, fresh) {
-            return at + 1;
-        }
-        at += 2;
-    }
-    if at == end {
-        return end;
-    }
-    if agrees(table, at, fresh) {
-        return at;
-    }
-    end
+    (from..end)
+        .find(|at| agrees(table, *at, fresh))
+        .unwrap_or(end)
 }
