@@ -1,60 +1,63 @@
 -- One turn of each loop over a list's words, as a step of the definition.
---   words_at                     a test's fault from the four words at its place
 --   tests_turn, tests_found      the next test has no fault; it has one
 --   list_turn, list_found        the next filter has no fault; it has one
--- Assumes nothing.
-use Prim.Native.Nat.{ℕ, zero, suc, ◌+◌, ◌-◌, ◌<◌}
-use mathlib.Core.Path.{◌≡◌, refl, ◌∙◌}
-use mathlib.Core.List.{List, [], ◌∷◌}
-use native.Mathlib.Nat.{add-zero, not-suc-le-zero, le_refl}
-use native.Mathlib.Omega.{arith}
-use lib.ListN.{length, get_or, take, drop, length-drop}
-use lib.Seq.{get_or-drop, drop-drop, take_all}
-use borrow.Author.Tests.{eq-eqb, ne_eqb}
+--   list_over                   a filter follows the last
+--   rest_is                     a part that is lent from a place on
+use Rattle.std.specs.Prelude.{ℕ, suc, ◌+◌, ◌-◌, ◌*◌, ◌<◌, ◌≡◌, refl, List, [], ◌∷◌, length, take, drop, Ok, Err}
+use Rattle.std.proofs.Common.{sym, ◌∙◌, not-suc-le-zero, le_refl, arith, length-drop, drop-drop, take_all}
+use Rattle.refusals.specs.declared.Refusal.{Refusal}
+use Rattle.refusals.specs.declared.Refusal.TheVariants.{ManyFilters}
+use Rattle.refusals.specs.Numbers.{refused}
 use Rattle.lists.specs.Filters.{max_filters, test_words, count_word, filter_words}
-use Rattle.lists.specs.Refusals.{test_fault, words_fault, tests_fault, filter_fault, listed_from}
+use Rattle.lists.specs.Words.{words_of}
+use Rattle.lists.specs.Refusals.{Fault, first_of, test_fault, tests_fault, filter_fault, unless_faulty, listed_from}
 use Rattle.lists.specs.laws.Walking.{listed_step}
-use Rattle.lists.specs.declared.Listed.TheVariants.{Refused}
 
-pub words_at : (ws : List ℕ) (at : ℕ) → test_fault (get_or ws at 0) (get_or ws (at + 1) 0) (get_or ws (at + 2) 0) (get_or ws (at + 3) 0) ≡ words_fault (drop at ws)
-unfolding words_fault
-words_at ws at = simp (get_or-drop, add-zero)
-
-pub tests_turn : (ws : List ℕ) (at left : ℕ) → 0 < left → words_fault (drop at ws) ≡ 0 → tests_fault left (drop at ws) ≡ tests_fault (left - 1) (drop (at + test_words) ws)
+-- The tests from the j-th on, by its fault.
+tests_here : (ws : List ℕ) (n j : ℕ) (x : Fault) → j < n → test_fault (words_of (drop (test_words * j) ws)) ≡ x →
+    tests_fault (n - j) (drop (test_words * j) ws) ≡ first_of x (tests_fault (n - (j + 1)) (drop (test_words * (j + 1)) ws))
 unfolding tests_fault
-tests_turn ws at zero l e = absurd (not-suc-le-zero l)
-tests_turn ws at (suc n) l e =
-    let z : suc n - 1 ≡ n = omega arith in
-    rw (eq-eqb (words_fault (drop at ws)) 0 e, drop-drop test_words at ws, z)
+tests_here ws n j x l e =
+    let z : n - j ≡ suc (n - (j + 1)) = omega arith in
+    let y : test_words * j + test_words ≡ test_words * (j + 1) = omega arith in
+    rw (z, e, drop-drop test_words (test_words * j) ws, y)
 
-pub tests_found : (ws : List ℕ) (left : ℕ) → 0 < left → (words_fault ws ≡ 0 → ⊥) → tests_fault left ws ≡ words_fault ws
+pub tests_turn : (ws : List ℕ) (n j : ℕ) → j < n → test_fault (words_of (drop (test_words * j) ws)) ≡ Ok tt →
+    tests_fault (n - (j + 1)) (drop (test_words * (j + 1)) ws) ≡ tests_fault (n - j) (drop (test_words * j) ws)
+tests_turn ws n j l e = sym (tests_here ws n j (Ok tt) l e)
+
+pub tests_found : (ws : List ℕ) (n j : ℕ) (r : Refusal) → j < n → test_fault (words_of (drop (test_words * j) ws)) ≡ Err r →
+    tests_fault (n - j) (drop (test_words * j) ws) ≡ Err r
+tests_found ws n j r l e = tests_here ws n j (Err r) l e
+
+pub tests_end : (n : ℕ) (ws : List ℕ) → tests_fault (n - n) ws ≡ Ok tt
 unfolding tests_fault
-tests_found ws zero l e = absurd (not-suc-le-zero l)
-tests_found ws (suc n) l e = rw (ne_eqb (words_fault ws) 0 e)
+tests_end n ws = let z : n - n ≡ 0 = omega arith in rw z
 
-pub list_turn : (ws : List ℕ) (at i t : ℕ) → i < max_filters → at < length ws → filter_fault (drop at ws) ≡ 0 →
+-- The list from a place on, by its filter's fault.
+list_here : (ws : List ℕ) (at i t : ℕ) (x : Fault) → i < max_filters → at < length ws → filter_fault (drop at ws) ≡ x →
+    listed_from (max_filters - i) i t (drop at ws) ≡ unless_faulty i x (listed_from (max_filters - (i + 1)) (i + 1) (t + count_word (drop at ws)) (drop (at + filter_words (drop at ws)) ws))
+list_here ws at i t x h l e =
+    let z : max_filters - i ≡ suc (max_filters - (i + 1)) = omega arith in
+    rw z
+    (listed_step (max_filters - (i + 1)) i t (drop at ws) (rw length-drop (omega arith)) ∙
+    rw (e, drop-drop (filter_words (drop at ws)) at ws))
+
+pub list_turn : (ws : List ℕ) (at i t : ℕ) → i < max_filters → at < length ws → filter_fault (drop at ws) ≡ Ok tt →
     listed_from (max_filters - i) i t (drop at ws) ≡ listed_from (max_filters - (i + 1)) (i + 1) (t + count_word (drop at ws)) (drop (at + filter_words (drop at ws)) ws)
-list_turn ws at i t h l e =
-    let z : max_filters - i ≡ suc (max_filters - (i + 1)) = omega arith in
-    rw z
-    (listed_step (max_filters - (i + 1)) i t (drop at ws) (rw length-drop (omega arith)) ∙
-    rw (eq-eqb (filter_fault (drop at ws)) 0 e, drop-drop (filter_words (drop at ws)) at ws))
+list_turn ws at i t h l e = list_here ws at i t (Ok tt) h l e
 
-pub list_found : (ws : List ℕ) (at i t : ℕ) → i < max_filters → at < length ws → (filter_fault (drop at ws) ≡ 0 → ⊥) →
-    listed_from (max_filters - i) i t (drop at ws) ≡ Refused (filter_fault (drop at ws)) i
-list_found ws at i t h l e =
-    let z : max_filters - i ≡ suc (max_filters - (i + 1)) = omega arith in
-    rw z
-    (listed_step (max_filters - (i + 1)) i t (drop at ws) (rw length-drop (omega arith)) ∙
-    rw (ne_eqb (filter_fault (drop at ws)) 0 e))
+pub list_found : (ws : List ℕ) (at i t : ℕ) (r : Refusal) → i < max_filters → at < length ws → filter_fault (drop at ws) ≡ Err r →
+    listed_from (max_filters - i) i t (drop at ws) ≡ Err (refused r i)
+list_found ws at i t r h l e = list_here ws at i t (Err r) h l e
 
 -- No filter may follow the last.
-listed_full : (i t : ℕ) (ws : List ℕ) → 0 < length ws → listed_from 0 i t ws ≡ Refused 1 i
+listed_full : (i t : ℕ) (ws : List ℕ) → 0 < length ws → listed_from 0 i t ws ≡ Err (refused ManyFilters i)
 unfolding listed_from
 listed_full i t [] l = absurd (not-suc-le-zero l)
 listed_full i t (w ∷ ws) l = refl
 
-pub list_over : (ws : List ℕ) (at i t : ℕ) → i ≡ max_filters → at < length ws → listed_from (max_filters - i) i t (drop at ws) ≡ Refused 1 i
+pub list_over : (ws : List ℕ) (at i t : ℕ) → i ≡ max_filters → at < length ws → listed_from (max_filters - i) i t (drop at ws) ≡ Err (refused ManyFilters i)
 list_over ws at i t h l =
     let z : max_filters - i ≡ 0 = omega arith in
     rw z (listed_full i t (drop at ws) (rw length-drop (omega arith)))

@@ -3,11 +3,13 @@
 
 ghost use Rattle.std.specs.Prelude.{◌≡◌, cond, not, ◌+◌, ◌*◌, ◌≤◌, eqb, length, get_or, drop};
 ghost use Rattle.sets.specs.Sets.{set_of, tally};
-ghost use Rattle.lists.specs.Filters.{max_filters, head_words, test_words, count_word, test_of, item_of, filters_of};
-ghost use Rattle.lists.specs.Refusals.{masked, test_fault, words_fault, tests_fault, filter_fault, listed};
-ghost use Rattle.lists.specs.Ranks.{outranks, rank_sets};
-ghost use Rattle.lists.specs.inner.Columns.{Heads, above_by, rank_set_by};
+ghost use Rattle.lists.specs.Filters.{max_filters, head_words, test_words, count_word, test_of, item_of, filter_of, filters_of};
+ghost use Rattle.lists.specs.Words.{words_of};
+ghost use Rattle.lists.specs.Refusals.{masked, test_fault, tests_fault, filter_fault, listed};
+ghost use Rattle.lists.specs.Ranks.{rank_sets};
+ghost use Rattle.lists.specs.inner.Columns.{rank_of, no_rank, Heads, above_by, rank_set_by};
 
+use refusals::{Refusal, Refused};
 use residue::Test;
 use sets::Set;
 
@@ -46,6 +48,9 @@ pub const AT_MOST: u32 = 3;
 
 pub const AT_LEAST: u32 = 4;
 
+// The rank of no filter: on its own.
+pub const NO_RANK: Rank = Rank { group: 0, level: 0 };
+
 // The first two as words.
 const FILTERS: u32 = MAX_FILTERS as u32;
 
@@ -54,18 +59,34 @@ const TESTS: u32 = MAX_TESTS as u32;
 // The fields that `fields` has.
 const FIELDS: u32 = fields::FIELDS as u32;
 
-// What reading a list comes to: so many filters and tests, or a refusal's number with the filter's number.
-#[derive(Clone, Copy)]
-pub enum Listed {
-    Accepted(u32, u32),
-    Refused(u32, u32),
+// How many filters and tests an accepted list has.
+#[derive(Clone, Copy, Debug, PartialEq, Eq)]
+pub struct Counts {
+    pub filters: u32,
+    pub tests: u32,
+}
+
+// A filter's group, and its level in the group.
+#[derive(Clone, Copy, Debug, Default, PartialEq, Eq)]
+pub struct Rank {
+    pub group: u32,
+    pub level: u32,
+}
+
+// The words of a test or of a question; kind 0 is no test.
+#[derive(Clone, Copy, Debug, Default, PartialEq, Eq)]
+pub struct TestWords {
+    pub kind: u32,
+    pub field: u32,
+    pub mask: u32,
+    pub value: u32,
 }
 
 // The word at a place; 0 behind the last, as the definitions read it.
 fn word_at(words: &[u32], at: usize) -> u32
     ensures { result ≡ get_or words.now at 0 }
 {
-    if at < words.len() { words[at] } else { 0 }
+    words.get(at).copied().unwrap_or(0)
 }
 
 // How many tests the filter that begins at a place has.
@@ -84,6 +105,7 @@ pub fn filter_words(count: u32) -> usize
 }
 
 // The test that the words kind, mask and value mean; a kind that is none reads as the last.
+#[tactic(auto, unfolding(crate::specs::Filters::test_of))]
 pub fn test_of(kind: u32, mask: u32, value: u32) -> Test
     ensures { result ≡ test_of kind mask value }
 {
@@ -95,14 +117,80 @@ pub fn test_of(kind: u32, mask: u32, value: u32) -> Test
     }
 }
 
+impl TestWords {
+    // The words of the test that begins at a place.
+    #[tactic(auto, unfolding(crate::specs::Words::words_of))]
+    pub fn at(words: &[u32], at: usize) -> TestWords
+        requires { at + test_words ≤ length words.now }
+        ensures { result ≡ words_of (drop at words.now) }
+    {
+        TestWords {
+            kind: words[at + KIND_AT],
+            field: words[at + FIELD_AT],
+            mask: words[at + MASK_AT],
+            value: words[at + VALUE_AT],
+        }
+    }
+
+    // The test that the words mean.
+    pub fn test(self) -> Test
+        ensures { result ≡ test_of self.kind self.mask self.value }
+    {
+        test_of(self.kind, self.mask, self.value)
+    }
+
+    // Kinds 1 and 2 want a mask, kinds 3 and 4 have none.
+    fn wrong_mask(self) -> bool
+        ensures { result ≡ cond (masked self.kind) (eqb self.mask 0) (not (eqb self.mask 0)) }
+    {
+        if self.kind <= DIFFERS {
+            self.mask == 0
+        } else {
+            self.mask != 0
+        }
+    }
+
+    // Whether the test has a fault, refusals 5 to 9.
+    #[tactic(auto, unfolding(crate::specs::Refusals::test_fault))]
+    fn check(self) -> Result<(), Refusal>
+        ensures { result ≡ test_fault self }
+    {
+        let TestWords {
+            kind,
+            field,
+            mask,
+            value,
+        } = self;
+        if (kind == 0) | (AT_LEAST < kind) {
+            return Err(Refusal::Kind);
+        }
+        if FIELDS <= field {
+            return Err(Refusal::Field);
+        }
+        if self.wrong_mask() {
+            return Err(Refusal::Mask);
+        }
+        let full = fields::full_of(field);
+        if (full < mask) | (full < value) {
+            return Err(Refusal::Width);
+        }
+        if (kind <= DIFFERS) & ((value & mask) != value) {
+            return Err(Refusal::Value);
+        }
+        Ok(())
+    }
+}
+
 // The test that begins at a place of the words, and its field.
+#[tactic(auto, unfolding(crate::specs::Words::words_of, crate::specs::Filters::item_of))]
 pub fn test_at(words: &[u32], at: usize) -> Test
     requires { at + test_words ≤ length words.now }
     ensures { result ≡ (item_of (drop at words.now)).test }
 {
-    test_of(words[at], words[at + MASK_AT], words[at + VALUE_AT])
+    TestWords::at(words, at).test()
 }
 
+#[tactic(auto, unfolding(crate::specs::Filters::item_of))]
 pub fn field_at(words: &[u32], at: usize) -> u32
     requires { at + test_words ≤ length words.now }
     ensures { result ≡ (item_of (drop at words.now)).field }
@@ -110,93 +198,40 @@ pub fn field_at(words: &[u32], at: usize) -> u32
     words[at + FIELD_AT]
 }
 
-// Kinds 1 and 2 want a mask, kinds 3 and 4 have none.
-fn wrong_mask(kind: u32, mask: u32) -> bool
-    ensures { result ≡ cond (masked kind) (eqb mask 0) (not (eqb mask 0)) }
-{
-    if kind <= DIFFERS {
-        mask == 0
-    } else {
-        mask != 0
-    }
-}
-
-// The fault of one test, 5 to 9; 0 where it has none.
-fn test_fault(kind: u32, field: u32, mask: u32, value: u32) -> u32
-    ensures { result ≡ test_fault kind field mask value }
-{
-    if (kind == 0) | (AT_LEAST < kind) {
-        return 5;
-    }
-    if FIELDS <= field {
-        return 6;
-    }
-    if wrong_mask(kind, mask) {
-        return 7;
-    }
-    let full = fields::full_of(field);
-    if (full < mask) | (full < value) {
-        return 8;
-    }
-    if (kind <= DIFFERS) & ((value & mask) != value) {
-        return 9;
-    }
-    0
-}
-
-// The fault of the test that begins at a place of the words.
-fn words_fault(words: &[u32], at: usize) -> u32
-    requires { at + test_words ≤ length words.now }
-    ensures { result ≡ words_fault (drop at words.now) }
-{
-    test_fault(
-        words[at],
-        words[at + FIELD_AT],
-        words[at + MASK_AT],
-        words[at + VALUE_AT],
-    )
-}
-
-// The first fault of the n tests that the words begin with; 0 where there is none.
-fn tests_fault(words: &[u32], n: u32) -> u32
+// The first fault of the n tests that the words begin with.
+fn check_tests(words: &[u32], n: u32) -> Result<(), Refusal>
     requires { test_words * n ≤ length words.now }
     ensures { result ≡ tests_fault n words.now }
 {
-    let mut at: usize = 0;
-    let mut left = n;
-    while 0 < left {
-        let fault = words_fault(words, at);
-        if fault != 0 {
-            return fault;
-        }
-        at += TEST_WORDS;
-        left -= 1;
+    for j in 0..n as usize {
+        TestWords::at(words, TEST_WORDS * j).check()?;
     }
-    0
+    Ok(())
 }
 
-// The fault of the filter that the words begin with; 0 where it has none.
-fn filter_fault(words: &[u32]) -> u32
+// The first fault of the filter that the words begin with.
+#[tactic(auto, unfolding(crate::specs::Refusals::filter_fault))]
+fn check_filter(words: &[u32]) -> Result<(), Refusal>
     ensures { result ≡ filter_fault words.now }
 {
     if words.len() < HEAD_WORDS {
-        return 2;
+        return Err(Refusal::CutFilter);
     }
     let count = words[COUNT_AT];
     if (MAX_RANK < words[0]) | (MAX_RANK < words[LEVEL_AT]) {
-        return 3;
+        return Err(Refusal::Rank);
     }
     if TESTS < count {
-        return 4;
+        return Err(Refusal::ManyTests);
     }
     if words.len() < filter_words(count) {
-        return 2;
+        return Err(Refusal::CutFilter);
     }
-    tests_fault(&words[HEAD_WORDS..], count)
+    check_tests(&words[HEAD_WORDS..], count)
 }
 
 // Reads the whole list: how many filters and tests it has, or its first fault and the filter that has it.
-pub fn check(list: &[u32]) -> Listed
+pub fn check(list: &[u32]) -> Result<Counts, Refused<u32>>
     ensures { result ≡ listed list.now }
 {
     let mut at: usize = 0;
@@ -204,89 +239,100 @@ pub fn check(list: &[u32]) -> Listed
     let mut tests: u32 = 0;
     while at < list.len() {
         if filters == FILTERS {
-            return Listed::Refused(1, filters);
+            return Err(Refused {
+                refusal: Refusal::ManyFilters,
+                place: filters,
+            });
         }
-        let fault = filter_fault(&list[at..]);
-        if fault != 0 {
-            return Listed::Refused(fault, filters);
+        if let Err(refusal) = check_filter(&list[at..]) {
+            return Err(Refused {
+                refusal,
+                place: filters,
+            });
         }
         let count = count_at(list, at);
         at += filter_words(count);
         tests += count;
         filters += 1;
     }
-    Listed::Accepted(filters, tests)
+    Ok(Counts { filters, tests })
 }
 
-// Writes the groups and levels of the list's filters, and says how many there are.
-pub fn heads(list: &[u32], groups: &mut [u32], levels: &mut [u32]) -> usize
-    requires { (length groups.old ≡ max_filters) × (length levels.old ≡ max_filters) }
-    ensures { Heads (filters_of list.now) result groups.new levels.new }
+impl Rank {
+    // The rank of the filter that begins at a place.
+    #[tactic(auto, unfolding(crate::specs::Filters::filter_of))]
+    fn at(list: &[u32], at: usize) -> Rank
+        requires { at ≤ length list.now }
+        ensures { result ≡ rank_of (filter_of (drop at list.now)) }
+    {
+        Rank {
+            group: word_at(list, at),
+            level: word_at(list, at + LEVEL_AT),
+        }
+    }
+}
+
+// Writes the ranks of the list's filters, and says how many there are.
+pub fn heads(list: &[u32], ranks: &mut [Rank; MAX_FILTERS]) -> usize
+    ensures { Heads (filters_of list.now) result ranks.new }
 {
     let mut at: usize = 0;
     let mut n: usize = 0;
     while (n < MAX_FILTERS) & (at < list.len()) {
-        groups[n] = word_at(list, at);
-        levels[n] = word_at(list, at + LEVEL_AT);
+        ranks[n] = Rank::at(list, at);
         at += filter_words(count_at(list, at));
         n += 1;
     }
     n
 }
 
-// Whether filter j ranks above filter i: never in group 0, where each is on its own.
-pub fn ranks_above(groups: &[u32], levels: &[u32], j: usize, i: usize) -> bool
-    ensures { result ≡ outranks (get_or groups.now j 0) (get_or levels.now j 0) j (get_or groups.now i 0) (get_or levels.now i 0) i }
+// The rank of filter i; beyond the last one group 0's lowest.
+fn rank_at(ranks: &[Rank], i: usize) -> Rank
+    ensures { result ≡ get_or ranks.now i no_rank }
 {
-    let group = word_at(groups, j);
-    let upper = word_at(levels, j);
-    let lower = word_at(levels, i);
-    (group != 0) & (group == word_at(groups, i)) & ((lower < upper) | ((upper == lower) & (j < i)))
+    ranks.get(i).copied().unwrap_or(NO_RANK)
+}
+
+// Whether filter j ranks above filter i: never in group 0, where each is on its own.
+#[tactic(auto, unfolding(crate::specs::inner::Columns::above_by, crate::specs::Ranks::outranks))]
+pub fn ranks_above(ranks: &[Rank], j: usize, i: usize) -> bool
+    ensures { result ≡ above_by ranks.now j i }
+{
+    let upper = rank_at(ranks, j);
+    let lower = rank_at(ranks, i);
+    (upper.group != 0)
+        & (upper.group == lower.group)
+        & ((lower.level < upper.level) | ((upper.level == lower.level) & (j < i)))
 }
 
 // The set of those among the first n filters that rank above filter i. Each has its bit.
-fn above_set(groups: &[u32], levels: &[u32], n: usize, i: usize) -> Set
+fn above_set(ranks: &[Rank], n: usize, i: usize) -> Set
     requires { n ≤ max_filters }
-    ensures { result ≡ set_of (tally n (λ j. above_by groups.now levels.now j i)) }
+    ensures { result ≡ set_of (tally n (λ j. above_by ranks.now j i)) }
 {
     let mut set: Set = 0;
-    let mut j: usize = 0;
-    while j < n {
-        set = sets::put(set, j as u32, ranks_above(groups, levels, j, i));
-        j += 1;
+    for j in 0..n {
+        set = sets::put(set, j as u32, ranks_above(ranks, j, i));
     }
     set
 }
 
 // The same where filter i may be beyond the list: nothing ranks above what is not there.
-fn rank_set(groups: &[u32], levels: &[u32], n: usize, i: usize) -> Set
+#[tactic(auto, unfolding(crate::specs::inner::Columns::rank_set_by))]
+fn rank_set(ranks: &[Rank], n: usize, i: usize) -> Set
     requires { n ≤ max_filters }
-    ensures { result ≡ rank_set_by groups.now levels.now n i }
+    ensures { result ≡ rank_set_by ranks.now n i }
 {
-    if i < n {
-        above_set(groups, levels, n, i)
-    } else {
-        0
-    }
-}
-
-fn write_ranks(groups: &[u32], levels: &[u32], n: usize, sets: &mut [Set])
-    requires { (n ≤ max_filters) × (length sets.old ≡ max_filters) }
-    ensures { sets.new ≡ tally max_filters (rank_set_by groups.now levels.now n) }
-{
-    let mut i: usize = 0;
-    while i < MAX_FILTERS {
-        sets[i] = rank_set(groups, levels, n, i);
-        i += 1;
-    }
+    if i < n { above_set(ranks, n, i) } else { 0 }
 }
 
 // Writes for each filter the set of those that rank above it, so that ranks are worked out once for a list.
 pub fn rank_sets(list: &[u32], sets: &mut [Set; MAX_FILTERS])
     ensures { sets.new ≡ rank_sets (filters_of list.now) }
 {
-    let mut groups = [0u32; MAX_FILTERS];
-    let mut levels = [0u32; MAX_FILTERS];
-    let n = heads(list, &mut groups, &mut levels);
-    write_ranks(&groups, &levels, n, sets);
+    let mut ranks = [NO_RANK; MAX_FILTERS];
+    let n = heads(list, &mut ranks);
+    for (i, set) in sets.iter_mut().enumerate() {
+        *set = rank_set(&ranks, n, i);
+    }
 }

@@ -1,57 +1,55 @@
 -- What it means that there is no fault; and faults have the numbers 1 to 9.
---   SoundTest k f m v   a test without a fault, what it has
+--   SoundTest w         a test without a fault, what it has
 --   NoFault ws          the words begin with a filter without a fault
 --   Faulty c            where the check c refuses, its number is 1 to 9
-use Rattle.std.specs.Prelude.{ℕ, zero, suc, ◌+◌, ◌≤◌, ◌<◌, ◌≡◌, refl, Bool, true, false, cond, not, ◌&&◌, ◌||◌, List, [], ◌∷◌, leb, ltb, eqb, length, get_or, drop}
-use Rattle.std.proofs.Common.{arith, true≢false, lit<, ltb-false, leb-false, eqb-true}
+use Rattle.std.specs.Prelude.{ℕ, zero, suc, ◌+◌, ◌≤◌, ◌<◌, ◌≡◌, refl, Bool, true, false, cond, not, ◌&&◌, ◌||◌, List, [], ◌∷◌, leb, ltb, eqb, length, drop, Ok, Err}
+use Rattle.std.proofs.Common.{arith, true≢false, lit<, lit≤, ltb-false, leb-false}
 use Rattle.std.specs.Int.Bits.{bit_and}
-use Rattle.std.proofs.lemmas.Bool.{eqb-false}
 use Rattle.residue.specs.laws.Choice.{by_cond, neither}
+use Rattle.refusals.specs.declared.Refusal.{Refusal}
+use Rattle.refusals.specs.Numbers.{number_of}
 use Rattle.fields.specs.Widths.{field_count, full}
-use Rattle.lists.specs.Filters.{max_filters, max_tests, max_rank, head_words, test_words, kind_at_least, group_word, level_word, count_word, kind_at, field_at, mask_at, value_at, filter_words}
-use Rattle.lists.specs.Refusals.{masked, test_fault, words_fault, tests_fault, filter_fault, listed_from, listed}
-use Rattle.lists.specs.declared.Listed.{Listed}
-use Rattle.lists.specs.declared.Listed.TheVariants as L
+use Rattle.lists.specs.declared.TestWords.{TestWords}
+use Rattle.lists.specs.Filters.{max_filters, max_tests, max_rank, head_words, test_words, kind_at_least, group_word, level_word, count_word, filter_words}
+use Rattle.lists.specs.Words.{words_of}
+use Rattle.lists.specs.Refusals.{Fault, first_of, masked, test_fault, tests_fault, filter_fault, Listed, unless_faulty, listed_from, listed}
 
 -- ---- no fault
 
--- A fault that is 0 is not the one tested first.
-fault_parts : (b : Bool) (x y : ℕ) → 0 < x → cond b x y ≡ 0 → (b ≡ false) × (y ≡ 0)
-fault_parts true x y h e = absurd (omega arith)
-fault_parts false x y h e = (refl, e)
+-- Where there is no fault, the one tested first does not hold.
+fault_parts : (b : Bool) (r : Refusal) (later : Fault) → cond b (Err r) later ≡ Ok tt → (b ≡ false) × (later ≡ Ok tt)
+fault_parts true r later e = absurd (cc)
+fault_parts false r later e = (refl, e)
 
--- The first fault that is not 0.
-pub first_parts : (x y : ℕ) → cond (eqb x 0) y x ≡ 0 → (x ≡ 0) × (y ≡ 0)
-first_parts x y e = go (eqb x 0) refl e
-  where
-    go : (b : Bool) → eqb x 0 ≡ b → cond b y x ≡ 0 → (x ≡ 0) × (y ≡ 0)
-    go true z h = (eqb-true x 0 z, h)
-    go false z h = absurd (eqb-false x 0 z h)
+-- Two parts without a fault.
+pub first_parts : (x later : Fault) → first_of x later ≡ Ok tt → (x ≡ Ok tt) × (later ≡ Ok tt)
+first_parts (Ok u) later e = (refl, e)
+first_parts (Err r) later e = absurd (cc)
 
-pub record SoundTest (k f m v : ℕ) : Type 0 where
-  pub kind : (1 ≤ k) × (k ≤ kind_at_least)
-  pub field : f < field_count
-  pub mask : cond (masked k) (eqb m 0) (not (eqb m 0)) ≡ false
-  pub mask_full : m ≤ full f
-  pub value_full : v ≤ full f
-  pub inside : (masked k && not (eqb (bit_and v m) v)) ≡ false
+pub record SoundTest (w : TestWords) : Type 0 where
+  pub kind : (1 ≤ w.kind) × (w.kind ≤ kind_at_least)
+  pub field : w.field < field_count
+  pub mask : cond (masked w.kind) (eqb w.mask 0) (not (eqb w.mask 0)) ≡ false
+  pub mask_full : w.mask ≤ full w.field
+  pub value_full : w.value ≤ full w.field
+  pub inside : (masked w.kind && not (eqb (bit_and w.value w.mask) w.value)) ≡ false
 
-pub sound_test : (k f m v : ℕ) → test_fault k f m v ≡ 0 → SoundTest k f m v
+pub sound_test : (w : TestWords) → test_fault w ≡ Ok tt → SoundTest w
 unfolding test_fault
-sound_test k f m v e =
-    let p5 = fault_parts (eqb k 0 || ltb kind_at_least k) _ _ (lit< tt) e in
-    let p6 = fault_parts (leb field_count f) _ _ (lit< tt) p5.1 in
-    let p7 = fault_parts (cond (masked k) (eqb m 0) (not (eqb m 0))) _ _ (lit< tt) p6.1 in
-    let p8 = fault_parts (ltb (full f) m || ltb (full f) v) _ _ (lit< tt) p7.1 in
-    let p9 = fault_parts (masked k && not (eqb (bit_and v m) v)) _ _ (lit< tt) p8.1 in
-    let k5 = neither (eqb k 0) (ltb kind_at_least k) p5.0 in
-    let k8 = neither (ltb (full f) m) (ltb (full f) v) p8.0 in
+sound_test w e =
+    let p5 = fault_parts (eqb w.kind 0 || ltb kind_at_least w.kind) _ _ e in
+    let p6 = fault_parts (leb field_count w.field) _ _ p5.1 in
+    let p7 = fault_parts (cond (masked w.kind) (eqb w.mask 0) (not (eqb w.mask 0))) _ _ p6.1 in
+    let p8 = fault_parts (ltb (full w.field) w.mask || ltb (full w.field) w.value) _ _ p7.1 in
+    let p9 = fault_parts (masked w.kind && not (eqb (bit_and w.value w.mask) w.value)) _ _ p8.1 in
+    let k5 = neither (eqb w.kind 0) (ltb kind_at_least w.kind) p5.0 in
+    let k8 = neither (ltb (full w.field) w.mask) (ltb (full w.field) w.value) p8.0 in
     record {
-      kind = (positive k k5.0, ltb-false kind_at_least k k5.1);
-      field = leb-false field_count f p6.0;
+      kind = (positive w.kind k5.0, ltb-false kind_at_least w.kind k5.1);
+      field = leb-false field_count w.field p6.0;
       mask = p7.0;
-      mask_full = ltb-false (full f) m k8.0;
-      value_full = ltb-false (full f) v k8.1;
+      mask_full = ltb-false (full w.field) w.mask k8.0;
+      value_full = ltb-false (full w.field) w.value k8.1;
       inside = p9.0;
     }
   where
@@ -65,15 +63,15 @@ pub record NoFault (ws : List ℕ) : Type 0 where
   pub level : level_word ws ≤ max_rank
   pub count : count_word ws ≤ max_tests
   pub whole : filter_words ws ≤ length ws
-  pub tests : tests_fault (count_word ws) (drop head_words ws) ≡ 0
+  pub tests : tests_fault (count_word ws) (drop head_words ws) ≡ Ok tt
 
-pub no_fault : (ws : List ℕ) → filter_fault ws ≡ 0 → NoFault ws
+pub no_fault : (ws : List ℕ) → filter_fault ws ≡ Ok tt → NoFault ws
 unfolding filter_fault
 no_fault ws e =
-    let p = fault_parts (ltb (length ws) head_words) _ _ (lit< tt) e in
-    let q = fault_parts (ltb max_rank (group_word ws) || ltb max_rank (level_word ws)) _ _ (lit< tt) p.1 in
-    let r = fault_parts (ltb max_tests (count_word ws)) _ _ (lit< tt) q.1 in
-    let s = fault_parts (ltb (length ws) (filter_words ws)) _ _ (lit< tt) r.1 in
+    let p = fault_parts (ltb (length ws) head_words) _ _ e in
+    let q = fault_parts (ltb max_rank (group_word ws) || ltb max_rank (level_word ws)) _ _ p.1 in
+    let r = fault_parts (ltb max_tests (count_word ws)) _ _ q.1 in
+    let s = fault_parts (ltb (length ws) (filter_words ws)) _ _ r.1 in
     let o = neither (ltb max_rank (group_word ws)) (ltb max_rank (level_word ws)) q.0 in
     record {
       head = ltb-false (length ws) head_words p.0;
@@ -87,45 +85,53 @@ no_fault ws e =
 -- ---- the numbers
 
 abbrev pub Faulty : Listed → Type 0
-Faulty (L.Accepted n k) = Unit {0}
-Faulty (L.Refused r i) = (0 < r) × (r ≤ 9)
+Faulty (Ok c) = Unit {0}
+Faulty (Err e) = (0 < number_of e.refusal) × (number_of e.refusal ≤ 9)
 
-few_cond : (b : Bool) (x : ℕ) {y : ℕ} → x ≤ 9 → y ≤ 9 → cond b x y ≤ 9
-few_cond true x p q = p
-few_cond false x p q = q
+-- The same of one fault.
+abbrev FaultyPart : Fault → Type 0
+FaultyPart (Ok u) = Unit {0}
+FaultyPart (Err r) = (0 < number_of r) × (number_of r ≤ 9)
 
-test_few : (k f m v : ℕ) → test_fault k f m v ≤ 9
-unfolding test_fault
-test_few k f m v =
-    few_cond (eqb k 0 || ltb kind_at_least k) 5 (omega arith)
-    (few_cond (leb field_count f) 6 (omega arith)
-    (few_cond (cond (masked k) (eqb m 0) (not (eqb m 0))) 7 (omega arith)
-    (few_cond (ltb (full f) m || ltb (full f) v) 8 (omega arith)
-    (few_cond (masked k && not (eqb (bit_and v m) v)) 9 {y = 0} (omega arith) (omega arith)))))
+test_faulty : (w : TestWords) → FaultyPart (test_fault w)
+unfolding test_fault number_of
+test_faulty w =
+    by_cond FaultyPart (eqb w.kind 0 || ltb kind_at_least w.kind) (λ _. (lit< tt, lit≤ tt)) (λ _.
+    by_cond FaultyPart (leb field_count w.field) (λ _. (lit< tt, lit≤ tt)) (λ _.
+    by_cond FaultyPart (cond (masked w.kind) (eqb w.mask 0) (not (eqb w.mask 0))) (λ _. (lit< tt, lit≤ tt)) (λ _.
+    by_cond FaultyPart (ltb (full w.field) w.mask || ltb (full w.field) w.value) (λ _. (lit< tt, lit≤ tt)) (λ _.
+    by_cond FaultyPart (masked w.kind && not (eqb (bit_and w.value w.mask) w.value)) (λ _. (lit< tt, lit≤ tt)) (λ _. tt)))))
 
-tests_few : (n : ℕ) (ws : List ℕ) → tests_fault n ws ≤ 9
-unfolding tests_fault words_fault
-tests_few zero ws = omega arith
-tests_few (suc n) ws =
-    few_cond (eqb (words_fault ws) 0) (tests_fault n (drop test_words ws)) (tests_few n (drop test_words ws)) (test_few (get_or ws kind_at 0) (get_or ws field_at 0) (get_or ws mask_at 0) (get_or ws value_at 0))
+first_faulty : (x later : Fault) → FaultyPart x → FaultyPart later → FaultyPart (first_of x later)
+first_faulty (Ok u) later p q = q
+first_faulty (Err r) later p q = p
 
-filter_few : (ws : List ℕ) → filter_fault ws ≤ 9
-unfolding filter_fault
-filter_few ws =
-    few_cond (ltb (length ws) head_words) 2 (omega arith)
-    (few_cond (ltb max_rank (group_word ws) || ltb max_rank (level_word ws)) 3 (omega arith)
-    (few_cond (ltb max_tests (count_word ws)) 4 (omega arith)
-    (few_cond (ltb (length ws) (filter_words ws)) 2 (omega arith) (tests_few (count_word ws) (drop head_words ws)))))
+tests_faulty : (n : ℕ) (ws : List ℕ) → FaultyPart (tests_fault n ws)
+unfolding tests_fault
+tests_faulty zero ws = tt
+tests_faulty (suc n) ws =
+    first_faulty (test_fault (words_of ws)) (tests_fault n (drop test_words ws)) (test_faulty (words_of ws)) (tests_faulty n (drop test_words ws))
+
+filter_faulty : (ws : List ℕ) → FaultyPart (filter_fault ws)
+unfolding filter_fault number_of
+filter_faulty ws =
+    by_cond FaultyPart (ltb (length ws) head_words) (λ _. (lit< tt, lit≤ tt)) (λ _.
+    by_cond FaultyPart (ltb max_rank (group_word ws) || ltb max_rank (level_word ws)) (λ _. (lit< tt, lit≤ tt)) (λ _.
+    by_cond FaultyPart (ltb max_tests (count_word ws)) (λ _. (lit< tt, lit≤ tt)) (λ _.
+    by_cond FaultyPart (ltb (length ws) (filter_words ws)) (λ _. (lit< tt, lit≤ tt)) (λ _. tests_faulty (count_word ws) (drop head_words ws)))))
+
+placed_faulty : (i : ℕ) (x : Fault) (later : Listed) → FaultyPart x → Faulty later → Faulty (unless_faulty i x later)
+placed_faulty i (Ok u) later p q = q
+placed_faulty i (Err r) later p q = p
 
 from_faulty : (n i k : ℕ) (ws : List ℕ) → Faulty (listed_from n i k ws)
-unfolding listed_from
+unfolding listed_from number_of
 from_faulty zero i k [] = tt
-from_faulty zero i k (w ∷ ws) = (omega arith, omega arith)
+from_faulty zero i k (w ∷ ws) = (lit< tt, lit≤ tt)
 from_faulty (suc n) i k [] = tt
 from_faulty (suc n) i k (w ∷ ws) =
-    by_cond Faulty (eqb (filter_fault (w ∷ ws)) 0)
-    (λ _. from_faulty n (i + 1) (k + count_word (w ∷ ws)) (drop (filter_words (w ∷ ws)) (w ∷ ws)))
-    (λ e. (omega (arith, eqb-false (filter_fault (w ∷ ws)) 0 e), filter_few (w ∷ ws)))
+    placed_faulty i (filter_fault (w ∷ ws)) _ (filter_faulty (w ∷ ws))
+    (from_faulty n (i + 1) (k + count_word (w ∷ ws)) (drop (filter_words (w ∷ ws)) (w ∷ ws)))
 
 pub listed_faulty : (ws : List ℕ) → Faulty (listed ws)
 unfolding listed

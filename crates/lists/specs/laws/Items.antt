@@ -2,16 +2,18 @@
 --   by_kind                    what holds of each of the four kinds holds of all between them
 --   kind_some, kind_known      no test has kind 0, nor a kind behind the last
 --   test_round, item_round     a test is read back from its words
+--   words_list, list_words     the words read from a list, and the list made of words
 --   words_round                four words without a fault are those of the test that they mean
 --   items_turn, items_end      a filter's tests from one place on: one and the rest; none
-use Rattle.std.specs.Prelude.{ℕ, zero, suc, ◌+◌, ◌-◌, ◌*◌, ◌≤◌, ◌<◌, ◌≡◌, refl, false, not, List, [], ◌∷◌, ltb, eqb, length, take, drop}
+use Rattle.std.specs.Prelude.{ℕ, zero, suc, ◌+◌, ◌-◌, ◌*◌, ◌≤◌, ◌<◌, ◌≡◌, refl, false, not, List, [], ◌∷◌, ltb, eqb, length, take, drop, Ok}
 use Rattle.std.proofs.Common.{arith, sym, ap, ◌∙◌, drop-drop, eqb-true}
 use Rattle.std.proofs.lemmas.Bool.{not-false}
 use Rattle.residue.specs.declared.Test.{Test}
 use Rattle.residue.specs.declared.Test.TheVariants.{Equal, Differs, AtMost, AtLeast}
+use Rattle.lists.specs.declared.TestWords.{TestWords}
 use Rattle.lists.specs.Filters.{test_words, kind_equal, kind_differs, kind_at_most, kind_at_least, Item, test_of, item_of, items_of}
-use Rattle.lists.specs.Words.{kind_of, mask_of, value_of, item_words}
-use Rattle.lists.specs.Refusals.{words_fault}
+use Rattle.lists.specs.Words.{kind_of, mask_of, value_of, item_words, test_list, words_of}
+use Rattle.lists.specs.Refusals.{test_fault}
 use Rattle.lists.specs.laws.Faults.{SoundTest, sound_test}
 
 -- ---- kinds
@@ -54,23 +56,39 @@ item_round it = ap (λ (t : Test). record { field = it.field; test = t }) (test_
 not_zero : (m : ℕ) → not (eqb m 0) ≡ false → m ≡ 0
 not_zero m e = eqb-true m 0 (not-false (eqb m 0) e)
 
-four_words_lem : (k f m v : ℕ) → SoundTest k f m v → item_words (record { field = f; test = test_of k m v }) ≡ k ∷ f ∷ m ∷ v ∷ []
-unfolding item_words kind_of mask_of value_of test_of
-four_words_lem k f m v s =
-    by_kind (λ (n : ℕ). SoundTest n f m v → item_words (record { field = f; test = test_of n m v }) ≡ n ∷ f ∷ m ∷ v ∷ [])
-    (λ (w : SoundTest kind_equal f m v). refl)
-    (λ (w : SoundTest kind_differs f m v). refl)
-    (λ (w : SoundTest kind_at_most f m v). ap (λ (x : ℕ). kind_at_most ∷ f ∷ x ∷ v ∷ []) (sym (not_zero m w.mask)))
-    (λ (w : SoundTest kind_at_least f m v). ap (λ (x : ℕ). kind_at_least ∷ f ∷ x ∷ v ∷ []) (sym (not_zero m w.mask)))
-    k s.kind.0 s.kind.1 s
+-- The item that the words mean.
+abbrev meant : TestWords → Item
+meant w = record { field = w.field; test = test_of w.kind w.mask w.value }
 
-pub words_round : (ws : List ℕ) → test_words ≤ length ws → words_fault ws ≡ 0 → item_words (item_of ws) ≡ take test_words ws
-unfolding words_fault item_of
-words_round [] l e = absurd (omega arith)
-words_round (a ∷ []) l e = absurd (omega arith)
-words_round (a ∷ b ∷ []) l e = absurd (omega arith)
-words_round (a ∷ b ∷ c ∷ []) l e = absurd (omega arith)
-words_round (a ∷ b ∷ c ∷ d ∷ ws) l e = four_words_lem a b c d (sound_test a b c d e)
+-- The words with another kind.
+abbrev with_kind : ℕ → TestWords → TestWords
+with_kind k w = record w { kind = k }
+
+four_words_lem : (w : TestWords) → SoundTest w → item_words (meant w) ≡ test_list w
+unfolding item_words kind_of mask_of value_of test_of
+four_words_lem w s =
+    by_kind (λ (n : ℕ). SoundTest (with_kind n w) → item_words (meant (with_kind n w)) ≡ test_list (with_kind n w))
+    (λ (_ : SoundTest (with_kind kind_equal w)). refl)
+    (λ (_ : SoundTest (with_kind kind_differs w)). refl)
+    (λ (t : SoundTest (with_kind kind_at_most w)). ap (λ (x : ℕ). kind_at_most ∷ w.field ∷ x ∷ w.value ∷ []) (sym (not_zero w.mask t.mask)))
+    (λ (t : SoundTest (with_kind kind_at_least w)). ap (λ (x : ℕ). kind_at_least ∷ w.field ∷ x ∷ w.value ∷ []) (sym (not_zero w.mask t.mask)))
+    w.kind s.kind.0 s.kind.1 s
+
+pub list_words : (w : TestWords) → words_of (test_list w) ≡ w
+unfolding words_of
+list_words w = refl
+
+pub words_list : (ws : List ℕ) → test_words ≤ length ws → test_list (words_of ws) ≡ take test_words ws
+unfolding words_of
+words_list [] l = absurd (omega arith)
+words_list (a ∷ []) l = absurd (omega arith)
+words_list (a ∷ b ∷ []) l = absurd (omega arith)
+words_list (a ∷ b ∷ c ∷ []) l = absurd (omega arith)
+words_list (a ∷ b ∷ c ∷ d ∷ ws) l = refl
+
+pub words_round : (ws : List ℕ) → test_words ≤ length ws → test_fault (words_of ws) ≡ Ok tt → item_words (item_of ws) ≡ take test_words ws
+unfolding words_of item_of
+words_round ws l e = four_words_lem (words_of ws) (sound_test (words_of ws) e) ∙ words_list ws l
 
 -- ---- a filter's tests, one after the other
 

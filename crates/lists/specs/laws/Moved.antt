@@ -9,7 +9,8 @@ use mathlib.Core.List.{List, [], ◌∷◌, ◌++◌}
 use borrow.Author.Tests.{eqb-true, le-ltb}
 use Rattle.residue.specs.laws.Choice.{first, second}
 use Rattle.lists.specs.Filters.{max_filters, max_rank, head_words, test_words, level_word, count_word, filter_words, Item, Filter, item_of, items_of, filter_of, filters_from, filters_of}
-use Rattle.lists.specs.Refusals.{words_fault, tests_fault, filter_fault, listed_from, listed}
+use Rattle.lists.specs.Words.{words_of}
+use Rattle.lists.specs.Refusals.{tests_fault, filter_fault, listed_from, listed}
 use Rattle.lists.specs.Ranks.{no_filter, group_of}
 use Rattle.lists.specs.inner.Moved.{all_in, in_group, moved, rest_words, moved_from, moved_words}
 
@@ -49,7 +50,7 @@ alike_items (suc n) xs ys h =
     )
 
 alike_fault : (n : ℕ) (xs ys : List ℕ) → Alike (test_words * n) xs ys → tests_fault n xs ≡ tests_fault n ys
-unfolding tests_fault words_fault
+unfolding tests_fault words_of
 alike_fault zero xs ys h = refl
 alike_fault (suc n) xs ys h =
     rw (

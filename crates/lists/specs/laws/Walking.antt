@@ -6,20 +6,22 @@
 --   Here ws at        a filter begins there: its words are in the list, and its tests are few
 --   at_start, at_next, at_end       a loop over an accepted list: its start, its turn, its end
 --   at_here, at_rest                what the loop may read, and the filters that it still has before it
-use Rattle.std.specs.Prelude.{ℕ, zero, suc, ◌+◌, ◌-◌, ◌≤◌, ◌<◌, ◌≡◌, refl, Bool, true, false, cond, List, [], ◌∷◌, eqb, length, drop}
-use Rattle.std.proofs.Common.{not-suc-le-zero, arith, sym, ap, ap₂, ◌∙◌, length-drop, drop-drop, eqb-true}
+use Rattle.std.specs.Prelude.{ℕ, zero, suc, ◌+◌, ◌-◌, ◌≤◌, ◌<◌, ◌≡◌, refl, List, [], ◌∷◌, length, drop, Ok, Err}
+use Rattle.std.proofs.Common.{not-suc-le-zero, arith, sym, ap, ap₂, ◌∙◌, length-drop, drop-drop}
+use Rattle.lists.specs.declared.Counts.{Counts}
 use Rattle.lists.specs.Filters.{max_filters, max_tests, head_words, count_word, filter_words, Filter, filter_of, filters_from, filters_of}
-use Rattle.lists.specs.Refusals.{filter_fault, listed_from, listed}
-use Rattle.lists.specs.declared.Listed.{Listed}
-use Rattle.lists.specs.declared.Listed.TheVariants.{Accepted, Refused}
+use Rattle.refusals.specs.declared.Refusal.TheVariants.{ManyFilters}
+use Rattle.refusals.specs.declared.Refused.{Refused}
+use Rattle.refusals.specs.Numbers.{refused}
+use Rattle.lists.specs.Refusals.{Fault, filter_fault, Listed, counts, unless_faulty, listed_from, listed}
 use Rattle.lists.specs.laws.Faults.{NoFault, no_fault}
 
-pub listed_step : (n i t : ℕ) (ws : List ℕ) → 0 < length ws → listed_from (suc n) i t ws ≡ cond (eqb (filter_fault ws) 0) (listed_from n (i + 1) (t + count_word ws) (drop (filter_words ws) ws)) (Refused (filter_fault ws) i)
+pub listed_step : (n i t : ℕ) (ws : List ℕ) → 0 < length ws → listed_from (suc n) i t ws ≡ unless_faulty i (filter_fault ws) (listed_from n (i + 1) (t + count_word ws) (drop (filter_words ws) ws))
 unfolding listed_from
 listed_step n i t [] l = absurd (not-suc-le-zero l)
 listed_step n i t (w ∷ ws) l = refl
 
-pub listed_end : (n i t : ℕ) → listed_from n i t [] ≡ Accepted i t
+pub listed_end : (n i t : ℕ) → listed_from n i t [] ≡ Ok (counts i t)
 unfolding listed_from
 listed_end zero i t = refl
 listed_end (suc n) i t = refl
@@ -37,44 +39,44 @@ filters_none (suc n) = refl
 
 -- ---- one filter off an accepted list
 
--- What it was accepted as.
-abbrev counts : Listed → ℕ × ℕ
-counts (Accepted n t) = (suc n, t)
-counts (Refused r i) = (0, 0)
+-- A list with so many filters and tests.
+abbrev pub accepted : ℕ → ℕ → Listed
+accepted n t = Ok (counts n t)
 
-pub accepted_one : (n t a b : ℕ) → Accepted n t ≡ Accepted a b → (n ≡ a) × (t ≡ b)
-accepted_one n t a b e = (omega (arith, ap (λ (l : Listed). (counts l).0) e), ap (λ (l : Listed). (counts l).1) e)
+pub accepted_one : (n t a b : ℕ) → accepted n t ≡ accepted a b → (n ≡ a) × (t ≡ b)
+accepted_one n t a b e = let c : counts n t ≡ counts a b = cc in (ap (λ (x : Counts). x.filters) c, ap (λ (x : Counts). x.tests) c)
 
-not_refused : (r i a b : ℕ) → Refused r i ≡ Accepted a b → ⊥
-not_refused r i a b e = omega (arith, ap (λ (l : Listed). (counts l).0) e)
+not_refused : (e : Refused ℕ) (a b : ℕ) → Err e ≡ accepted a b → ⊥
+not_refused r a b e = cc
 
-accepted_parts : (n i t a b : ℕ) (ws : List ℕ) → 0 < length ws → listed_from (suc n) i t ws ≡ Accepted a b → (filter_fault ws ≡ 0) × (listed_from n (i + 1) (t + count_word ws) (drop (filter_words ws) ws) ≡ Accepted a b)
-accepted_parts n i t a b ws l e = go (eqb (filter_fault ws) 0) refl (sym (listed_step n i t ws l) ∙ e)
-  where
-    go : (c : Bool) → eqb (filter_fault ws) 0 ≡ c → cond c (listed_from n (i + 1) (t + count_word ws) (drop (filter_words ws) ws)) (Refused (filter_fault ws) i) ≡ Accepted a b → (filter_fault ws ≡ 0) × (listed_from n (i + 1) (t + count_word ws) (drop (filter_words ws) ws) ≡ Accepted a b)
-    go true z h = (eqb-true (filter_fault ws) 0 z, h)
-    go false z h = absurd (not_refused (filter_fault ws) i a b h)
+-- A list that is accepted has no fault here and is accepted from there.
+sound_parts : (i a b : ℕ) (x : Fault) (later : Listed) → unless_faulty i x later ≡ accepted a b → (x ≡ Ok tt) × (later ≡ accepted a b)
+sound_parts i a b (Ok u) later e = (refl, e)
+sound_parts i a b (Err r) later e = absurd (cc)
 
-pub accepted_head : (n i t a b : ℕ) (ws : List ℕ) → 0 < length ws → listed_from (suc n) i t ws ≡ Accepted a b → NoFault ws
+accepted_parts : (n i t a b : ℕ) (ws : List ℕ) → 0 < length ws → listed_from (suc n) i t ws ≡ Ok (counts a b) → (filter_fault ws ≡ Ok tt) × (listed_from n (i + 1) (t + count_word ws) (drop (filter_words ws) ws) ≡ Ok (counts a b))
+accepted_parts n i t a b ws l e = sound_parts i a b (filter_fault ws) _ (sym (listed_step n i t ws l) ∙ e)
+
+pub accepted_head : (n i t a b : ℕ) (ws : List ℕ) → 0 < length ws → listed_from (suc n) i t ws ≡ Ok (counts a b) → NoFault ws
 accepted_head n i t a b ws l e = no_fault ws (accepted_parts n i t a b ws l e).0
 
-pub accepted_rest : (n i t a b : ℕ) (ws : List ℕ) → 0 < length ws → listed_from (suc n) i t ws ≡ Accepted a b → listed_from n (i + 1) (t + count_word ws) (drop (filter_words ws) ws) ≡ Accepted a b
+pub accepted_rest : (n i t a b : ℕ) (ws : List ℕ) → 0 < length ws → listed_from (suc n) i t ws ≡ Ok (counts a b) → listed_from n (i + 1) (t + count_word ws) (drop (filter_words ws) ws) ≡ Ok (counts a b)
 accepted_rest n i t a b ws l e = (accepted_parts n i t a b ws l e).1
 
 -- No filter can follow the last.
-pub accepted_last : (i t a b : ℕ) (w : ℕ) (ws : List ℕ) → listed_from 0 i t (w ∷ ws) ≡ Accepted a b → ⊥
+pub accepted_last : (i t a b : ℕ) (w : ℕ) (ws : List ℕ) → listed_from 0 i t (w ∷ ws) ≡ Ok (counts a b) → ⊥
 unfolding listed_from
-accepted_last i t a b w ws e = not_refused 1 i a b e
+accepted_last i t a b w ws e = not_refused (refused ManyFilters i) a b e
 
 -- ---- a loop over an accepted list
 
 record Next (m i t a b : ℕ) (ws : List ℕ) : Type 0 where
   sound : NoFault ws
-  later : listed_from (m - 1) (i + 1) (t + count_word ws) (drop (filter_words ws) ws) ≡ Accepted a b
+  later : listed_from (m - 1) (i + 1) (t + count_word ws) (drop (filter_words ws) ws) ≡ Ok (counts a b)
   filters : filters_from m ws ≡ filter_of ws ∷ filters_from (m - 1) (drop (filter_words ws) ws)
 
 -- While filters are still to come, one begins here.
-accepted_on : (m i t a b : ℕ) (ws : List ℕ) → listed_from m i t ws ≡ Accepted a b → i < a → Next m i t a b ws
+accepted_on : (m i t a b : ℕ) (ws : List ℕ) → listed_from m i t ws ≡ Ok (counts a b) → i < a → Next m i t a b ws
 accepted_on m i t a b [] e h = absurd (omega (arith, (accepted_one i t a b (sym (listed_end m i t) ∙ e)).0))
 accepted_on zero i t a b (w ∷ ws) e h = absurd (accepted_last i t a b w ws e)
 accepted_on (suc m) i t a b (w ∷ ws) e h =
@@ -86,7 +88,7 @@ accepted_on (suc m) i t a b (w ∷ ws) e h =
       filters = filters_step m (w ∷ ws) l ∙ ap (λ (x : ℕ). filter_of (w ∷ ws) ∷ filters_from x (drop (filter_words (w ∷ ws)) (w ∷ ws))) z;
     }
 
-accepted_le : (m i t a b : ℕ) (ws : List ℕ) → listed_from m i t ws ≡ Accepted a b → i ≤ a
+accepted_le : (m i t a b : ℕ) (ws : List ℕ) → listed_from m i t ws ≡ Ok (counts a b) → i ≤ a
 accepted_le zero i t a b [] e = omega (arith, (accepted_one i t a b (sym (listed_end zero i t) ∙ e)).0)
 accepted_le zero i t a b (w ∷ ws) e = absurd (accepted_last i t a b w ws e)
 accepted_le (suc m) i t a b [] e = omega (arith, (accepted_one i t a b (sym (listed_end (suc m) i t) ∙ e)).0)
@@ -95,7 +97,7 @@ accepted_le (suc m) i t a b (w ∷ ws) e =
     omega (arith, accepted_le m (i + 1) (t + count_word (w ∷ ws)) a b (drop (filter_words (w ∷ ws)) (w ∷ ws)) r)
 
 -- Where all have come, none follows.
-accepted_stop : (m i t a b : ℕ) (ws : List ℕ) → listed_from m i t ws ≡ Accepted a b → a ≤ i → filters_from m ws ≡ []
+accepted_stop : (m i t a b : ℕ) (ws : List ℕ) → listed_from m i t ws ≡ Ok (counts a b) → a ≤ i → filters_from m ws ≡ []
 accepted_stop m i t a b [] e h = filters_none m
 accepted_stop zero i t a b (w ∷ ws) e h = absurd (accepted_last i t a b w ws e)
 accepted_stop (suc m) i t a b (w ∷ ws) e h =
@@ -114,10 +116,10 @@ sound_here ws at s =
     record { head = omega (arith, l, s.head); count = s.count; whole = omega (arith, l, s.head, s.whole) }
 
 pub record At (ws : List ℕ) (n i at : ℕ) : Type 0 where
-  pub accepted : (t : ℕ) × (b : ℕ) × (listed_from (max_filters - i) i t (drop at ws) ≡ Accepted n b)
+  pub accepted : (t : ℕ) × (b : ℕ) × (listed_from (max_filters - i) i t (drop at ws) ≡ Ok (counts n b))
   pub rest : filters_from (max_filters - i) (drop at ws) ≡ drop i (filters_of ws)
 
-pub at_start : (ws : List ℕ) (n t : ℕ) → listed ws ≡ Accepted n t → At ws n 0 0
+pub at_start : (ws : List ℕ) (n t : ℕ) → listed ws ≡ Ok (counts n t) → At ws n 0 0
 unfolding listed filters_of
 at_start ws n t e = record { accepted = (0, t, e); rest = refl }
 
