@@ -1,6 +1,6 @@
 -- What a frame has, by what the arms of the code tell.
 -- Assumes nothing.
-use Rattle.std.specs.Prelude.{Option, None, Some}
+use Rattle.std.specs.Prelude.{Option, None, Some, is_some}
 use Prim.Native.Nat.{ℕ, ◌*◌, ◌/◌, ◌%◌, ◌≤◌}
 use native.Mathlib.Omega.{arith}
 use mathlib.Core.Path.{◌≡◌, refl, sym, subst, ◌∙◌}
@@ -76,6 +76,10 @@ is_packet f {p} =
     let same : ◌≡◌ {A = Part} (record { start = transport_start f; end = transport_end f }) p = cc in
     subst (λ (q : Part). PacketAt f q.start q.end) same (packet_at f h))
     (λ h e. let z : ◌≡◌ {A = ℕ} 0 1 = cc in absurd (omega arith))
+
+-- Whether there is one.
+pub some_packet : (f : List ℕ) → is_some (packet_in f) ≡ internet f
+some_packet f = by_cond (λ (p : Option Part). is_some p ≡ internet f) (internet f) sym sym
 
 pub no_packet : (f : List ℕ) → packet_in f ≡ None → internet f ≡ false
 no_packet f =

@@ -1,12 +1,11 @@
 // The Ethernet header.
 ghost use Rattle.std.specs.Prelude.{◌≡◌};
 ghost use Rattle.fields.specs.Seen.{may_be_type};
-ghost use Rattle.fields.specs.inner.Parts.{type_in, Begins};
+ghost use Rattle.fields.specs.inner.Parts.{Added, type_in, packet_in, first_puts};
 
 use crate::bytes::{byte_at, two_at};
 use crate::ipv4::Part;
-use crate::put::put;
-use crate::{BOX_PORT, Values, ipv4};
+use crate::{BOX_PORT, Header, ipv4};
 
 // The field of this header, by its number.
 pub const ETHER_TYPE: u32 = 0;
@@ -31,29 +30,19 @@ fn type_in(frame: &[u8]) -> Option<u32>
     Some(number)
 }
 
-// What the first step of reading a header leaves: the set so far, and the packet in the frame.
-#[derive(Clone, Copy, Debug, PartialEq, Eq)]
-pub struct Begun {
-    pub present: u32,
-    pub packet: Option<Part>,
-}
-
-// The first step: the box port, and field 0 if the frame has it.
-pub fn read_ethernet(frame: &[u8], port: u8, values: &mut Values) -> Begun
-    ensures { Begins frame.now port values.old result values.new }
-{
-    let present = put(BOX_PORT, port as u32, 0, values);
-    let Some(ether_type) = type_in(frame) else {
-        return Begun {
-            present,
-            packet: None,
-        };
-    };
-    // Looked for before the next store, so that the compiler need not load again what was just read.
-    let packet = ipv4::packet_in(frame);
-    Begun {
-        present: put(ETHER_TYPE, ether_type, present, values),
-        packet,
+impl Header {
+    // The first step of reading: the box port, and field 0 if the frame has it. It answers with the transport part of the frame's packet.
+    pub fn read_ethernet(&mut self, frame: &[u8], port: u8) -> Option<Part>
+        ensures puts { Added (first_puts frame.now port) (record self.old { present = 0 }) self.new }
+        ensures found { result ≡ packet_in frame.now }
+    {
+        self.present = 0;
+        self.put(BOX_PORT, port as u32);
+        let ether_type = type_in(frame)?;
+        // Looked for before the next store, so that the compiler need not load again what was just read.
+        let part = ipv4::packet_in(frame);
+        self.put(ETHER_TYPE, ether_type);
+        part
     }
 }
 

@@ -5,10 +5,9 @@ ghost use Rattle.fields.specs.Ipv4.{internet, internet_puts};
 ghost use Rattle.fields.specs.Seen.{may_be_internet, may_begin};
 ghost use Rattle.fields.specs.inner.Parts.{Added, packet_in, part_puts};
 
+use crate::Header;
 use crate::bytes::{byte_at, could_be, four_at, two_at};
 use crate::ethernet::{IP_START, TYPE_AT};
-use crate::put::put;
-use crate::{Values, transport};
 
 // The EtherType, and the bytes of the shortest header and of the shortest frame that has one.
 const IPV4: u32 = 0x0800;
@@ -121,39 +120,40 @@ pub fn may_begin(frame: &[u8]) -> bool
     could_be(frame, FRAGMENT_AT + 1, 0)
 }
 
-// The header's own fields.
-fn fill_header(frame: &[u8], present: u32, values: &mut Values) -> u32
-    requires { 34 ≤ length frame.now }
-    ensures { Added (internet_puts frame.now) present values.old result values.new }
-{
-    let mut set = put(TYPE_OF_SERVICE, byte_at(frame, 15), present, values);
-    set = put(TOTAL_LENGTH, two_at(frame, TOTAL_AT), set, values);
-    set = put(FRAGMENT, two_at(frame, FRAGMENT_AT), set, values);
-    set = put(TIME_TO_LIVE, byte_at(frame, 22), set, values);
-    set = put(PROTOCOL, byte_at(frame, PROTOCOL_AT), set, values);
-    set = put(SOURCE, four_at(frame, 26), set, values);
-    put(DESTINATION, four_at(frame, 30), set, values)
-}
+impl Header {
+    // The packet's own fields.
+    fn fill_internet(&mut self, frame: &[u8])
+        requires { 34 ≤ length frame.now }
+        ensures { Added (internet_puts frame.now) self.old self.new }
+    {
+        self.put(TYPE_OF_SERVICE, byte_at(frame, 15));
+        self.put(TOTAL_LENGTH, two_at(frame, TOTAL_AT));
+        self.put(FRAGMENT, two_at(frame, FRAGMENT_AT));
+        self.put(TIME_TO_LIVE, byte_at(frame, 22));
+        self.put(PROTOCOL, byte_at(frame, PROTOCOL_AT));
+        self.put(SOURCE, four_at(frame, 26));
+        self.put(DESTINATION, four_at(frame, 30));
+    }
 
-// The second step of reading a header: the packet's own fields, if the frame has one.
-pub fn read_internet(frame: &[u8], packet: Option<Part>, present: u32, values: &mut Values) -> u32
-    requires { packet ≡ packet_in frame.now }
-    ensures { Added (only_if (internet frame.now) (internet_puts frame.now)) present values.old result values.new }
-{
-    let Some(_) = packet else {
-        return present;
-    };
-    fill_header(frame, present, values)
-}
+    // The second step of reading: these, if the frame has a packet.
+    pub fn read_internet(&mut self, frame: &[u8], packet: Option<Part>)
+        requires { packet ≡ packet_in frame.now }
+        ensures { Added (only_if (internet frame.now) (internet_puts frame.now)) self.old self.new }
+    {
+        if packet.is_some() {
+            self.fill_internet(frame);
+        }
+    }
 
-// The third step: the fields of its transport part, which is read as a part of the frame.
-pub fn read_transport(frame: &[u8], packet: Option<Part>, present: u32, values: &mut Values) -> u32
-    requires { packet ≡ packet_in frame.now }
-    ensures { Added (part_puts frame.now) present values.old result values.new }
-{
-    let Some(part) = packet else {
-        return present;
-    };
-    let protocol = byte_at(frame, PROTOCOL_AT);
-    transport::fill(&frame[part.start..part.end], protocol, present, values)
+    // The third step: the fields of its transport part, which is read as a part of the frame.
+    pub fn read_transport(&mut self, frame: &[u8], packet: Option<Part>)
+        requires { packet ≡ packet_in frame.now }
+        ensures { Added (part_puts frame.now) self.old self.new }
+    {
+        let Some(part) = packet else {
+            return;
+        };
+        let protocol = byte_at(frame, PROTOCOL_AT);
+        self.fill_transport(&frame[part.start..part.end], protocol);
+    }
 }

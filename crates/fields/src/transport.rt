@@ -2,12 +2,10 @@
 ghost use Rattle.std.specs.Prelude.{◌≡◌};
 ghost use Rattle.sets.specs.Sets.{set_of};
 ghost use Rattle.fields.specs.Transport.{tcp, udp, icmp, transport_puts};
-ghost use Rattle.fields.specs.inner.Parts.{carried};
-ghost use Rattle.fields.specs.inner.Parts.{Added};
+ghost use Rattle.fields.specs.inner.Parts.{Added, carried};
 
-use crate::Values;
+use crate::Header;
 use crate::bytes::{byte_at, two_at};
-use crate::put::put;
 
 // Protocols.
 pub const TCP: u32 = 6;
@@ -32,56 +30,54 @@ const TCP_SET: u32 = UDP_SET + (1 << TCP_FLAGS);
 
 const ICMP_SET: u32 = (1 << ICMP_TYPE) + (1 << ICMP_CODE);
 
-// The ports, which TCP and UDP share: the source port too is there only if both are whole.
-fn udp(part: &[u8], present: u32, values: &mut Values) -> u32
-    ensures { Added (transport_puts udp part.now) present values.old result values.new }
-{
-    if part.len() < 4 {
-        return present;
+impl Header {
+    // The ports, which TCP and UDP share: the source port too is there only if both are whole.
+    fn fill_udp(&mut self, part: &[u8])
+        ensures { Added (transport_puts udp part.now) self.old self.new }
+    {
+        if part.len() < 4 {
+            return;
+        }
+        self.put(SOURCE_PORT, two_at(part, 0));
+        self.put(DESTINATION_PORT, two_at(part, 2));
     }
-    let set = put(SOURCE_PORT, two_at(part, 0), present, values);
-    put(DESTINATION_PORT, two_at(part, 2), set, values)
-}
 
-// Ports and flags.
-fn tcp(part: &[u8], present: u32, values: &mut Values) -> u32
-    ensures { Added (transport_puts tcp part.now) present values.old result values.new }
-{
-    let set = udp(part, present, values);
-    if part.len() < 14 {
-        return set;
+    // Ports and flags.
+    fn fill_tcp(&mut self, part: &[u8])
+        ensures { Added (transport_puts tcp part.now) self.old self.new }
+    {
+        self.fill_udp(part);
+        if part.len() < 14 {
+            return;
+        }
+        self.put(TCP_FLAGS, byte_at(part, 13));
     }
-    put(TCP_FLAGS, byte_at(part, 13), set, values)
-}
 
-// Type and code.
-fn icmp(part: &[u8], present: u32, values: &mut Values) -> u32
-    ensures { Added (transport_puts icmp part.now) present values.old result values.new }
-{
-    if part.len() < 1 {
-        return present;
+    // Type and code.
+    fn fill_icmp(&mut self, part: &[u8])
+        ensures { Added (transport_puts icmp part.now) self.old self.new }
+    {
+        if part.len() < 1 {
+            return;
+        }
+        self.put(ICMP_TYPE, byte_at(part, 0));
+        if part.len() < 2 {
+            return;
+        }
+        self.put(ICMP_CODE, byte_at(part, 1));
     }
-    let set = put(ICMP_TYPE, byte_at(part, 0), present, values);
-    if part.len() < 2 {
-        return set;
-    }
-    put(ICMP_CODE, byte_at(part, 1), set, values)
-}
 
-// The fields of a part, by its protocol.
-pub fn fill(part: &[u8], protocol: u32, present: u32, values: &mut Values) -> u32
-    ensures { Added (transport_puts protocol part.now) present values.old result values.new }
-{
-    if protocol == TCP {
-        return tcp(part, present, values);
+    // The fields of a transport part, by its protocol.
+    pub(crate) fn fill_transport(&mut self, part: &[u8], protocol: u32)
+        ensures { Added (transport_puts protocol part.now) self.old self.new }
+    {
+        match protocol {
+            TCP => self.fill_tcp(part),
+            UDP => self.fill_udp(part),
+            ICMP => self.fill_icmp(part),
+            _ => {}
+        }
     }
-    if protocol == UDP {
-        return udp(part, present, values);
-    }
-    if protocol == ICMP {
-        return icmp(part, present, values);
-    }
-    present
 }
 
 // The fields that a part could have whose protocol stands at a place of the frame, or behind its end.

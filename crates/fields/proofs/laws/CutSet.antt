@@ -10,6 +10,7 @@ use Rattle.std.proofs.Math.ListN.{get_or, get_or-eq_default}
 use Rattle.residue.specs.laws.Choice.{first, second}
 use Rattle.sets.specs.Sets.{set_of, member, tally}
 use Rattle.sets.specs.laws.Members.{each, less, minus_sets, member_set_of, member_tally, tally_ext}
+use Rattle.fields.specs.declared.Header.{Header}
 use Rattle.fields.specs.declared.Seen.{Seen}
 use Rattle.fields.specs.declared.Seen.TheVariants as S
 use Rattle.fields.specs.Widths.{field_count}
@@ -20,7 +21,7 @@ use Rattle.fields.specs.Transport.{tcp, udp, icmp}
 use Rattle.fields.specs.Fields.{puts, field}
 use Rattle.fields.specs.Cut.{is_present}
 use Rattle.fields.specs.Seen.{could, may_be_type, may_be_internet, may_begin, may_carry, chances, possible, seen_of, seen, is_cut, reading_of}
-use Rattle.fields.specs.Header.{Header, filled, present_set, reading_at}
+use Rattle.fields.specs.Header.{filled, present_set, reading_at, HeaderOf}
 use Rattle.fields.specs.inner.Sight.{cut_set, seen_at}
 use Rattle.fields.specs.inner.Parts.{lacking}
 use Rattle.fields.proofs.laws.Cut.{reading_so}
@@ -190,10 +191,10 @@ value_uncut S.Cut {x} e = let z : ◌≡◌ {A = ℕ} 0 1 = cc in absurd (omega 
 
 -- The same of all fields at once.
 pub seen_once :
-    {f : List ℕ} {p : ℕ} {old new : List ℕ} {s c : ℕ} →
-    length old ≡ field_count →
-    Header f p old new s →
-    c ≡ lacking f s →
-    seen_at s c new ≡ seen f p
-seen_once {f} {p} {old} {new} {s} {c} long h e =
-    fun_ext (λ (n : ℕ). rw (e, h.set, h.words, cut_set_lem f p) (seen_agrees f p old long n))
+    {f : List ℕ} {p c : ℕ} {old new : Header} →
+    length old.values ≡ field_count →
+    HeaderOf f p old new →
+    c ≡ lacking f new.present →
+    seen_at new.present c new.values ≡ seen f p
+seen_once {f} {p} {c} {old} long h e =
+    fun_ext (λ (n : ℕ). rw (e, h.set, h.words, cut_set_lem f p) (seen_agrees f p old.values long n))

@@ -12,7 +12,8 @@ use Rattle.sets.specs.laws.Members.{member_empty, member_or, member_one}
 use Rattle.fields.specs.Widths.{field_count}
 use Rattle.fields.specs.Puts.{Put, put_all}
 use Rattle.fields.specs.Fields.{puts, readings, field}
-use Rattle.fields.specs.Header.{Header, noted, filled, present_set, reading_at}
+use Rattle.fields.specs.Header.{noted, filled, present_set, reading_at, HeaderOf}
+use Rattle.fields.specs.declared.Header.{Header}
 
 -- A set and k words say what k readings say, each field by its number.
 record Says (k s : ℕ) (vs : List ℕ) (rs : List (Option ℕ)) : Type 0 where
@@ -79,9 +80,5 @@ module _ (f : List ℕ) (p : ℕ) (old : List ℕ) (long : length old ≡ field_
 
 -- The same of all fields at once.
 pub read_once :
-    {f : List ℕ} {p : ℕ} {old new : List ℕ} {s : ℕ} →
-    length old ≡ field_count →
-    Header f p old new s →
-    reading_at s new ≡ field f p
-read_once {f} {p} {old} {new} {s} long h =
-    fun_ext (λ (n : ℕ). rw (h.set, h.words) (header_agrees f p old long n))
+    {f : List ℕ} {p : ℕ} {old new : Header} → length old.values ≡ field_count → HeaderOf f p old new → reading_at new.present new.values ≡ field f p
+read_once {f} {p} {old} long h = fun_ext (λ (n : ℕ). rw (h.set, h.words) (header_agrees f p old.values long n))

@@ -1,15 +1,14 @@
 -- A header by its parts, for the contracts of the functions that read them.
---   Added              the puts ps, added to the set s and to the words old, give the set r and the words new
+--   Added              the puts ps, added to the header old, give the header new
 --   type_in f           field 0
 --   packet_in f         a packet that is whole, with the start and the end of its transport part
---   first_puts f p      the box port and field 0
---   Begins             the first step of reading a header: these are put, and the packet is found
---   part_puts f         the fields of the transport part, the third step; the second is the packet's header
+--   first_puts f p      the box port and field 0, which the first step of reading a header puts; the second puts the packet's header
+--   part_puts f         the fields of the transport part, the third step
 --   lacking f s        what of the fields that could be there is not in the set s
 --   carried f i        for each field up to 12 whether a part could have it whose protocol is byte i of the frame
 use Rattle.std.specs.Prelude.{ℕ, ◌-◌, ◌^◌, ◌≡◌, Bool, false, cond, ◌||◌, List, [], ◌∷◌, ◌++◌, eqb, Option, None, Some}
 use Rattle.std.specs.Int.Bits.{bit_and}
-use Rattle.fields.specs.declared.ethernet.Begun.{Begun}
+use Rattle.fields.specs.declared.Header.{Header}
 use Rattle.fields.specs.declared.ipv4.Part.{Part}
 use Rattle.sets.specs.Sets.{set_of}
 use Rattle.fields.specs.Puts.{Put, only_if}
@@ -19,9 +18,9 @@ use Rattle.fields.specs.Transport.{tcp, udp, icmp, transport_puts}
 use Rattle.fields.specs.Seen.{could, chances}
 use Rattle.fields.specs.Header.{noted, filled}
 
-pub record Added (ps : List Put) (s : ℕ) (old : List ℕ) (r : ℕ) (new : List ℕ) : Type 0 where
-  pub set : r ≡ noted ps s
-  pub words : new ≡ filled ps old
+pub record Added (ps : List Put) (old new : Header) : Type 0 where
+  pub set : new.present ≡ noted ps old.present
+  pub words : new.values ≡ filled ps old.values
 
 abbrev pub type_in : List ℕ → Option ℕ
 type_in f = cond (ethernet f) (Some (ether_type f)) None
@@ -31,10 +30,6 @@ packet_in f = cond (internet f) (Some (record { start = transport_start f; end =
 
 abbrev pub first_puts : List ℕ → ℕ → List Put
 first_puts f p = (13, p) ∷ [] ++ only_if (ethernet f) ((0, ether_type f) ∷ [])
-
-pub record Begins (f : List ℕ) (p : ℕ) (old : List ℕ) (b : Begun) (new : List ℕ) : Type 0 where
-  pub puts : Added (first_puts f p) 0 old b.present new
-  pub found : b.packet ≡ packet_in f
 
 abbrev pub part_puts : List ℕ → List Put
 part_puts f = only_if (internet f) (transport_puts (protocol f) (transport f))

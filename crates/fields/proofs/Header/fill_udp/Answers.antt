@@ -1,11 +1,11 @@
--- `fields::transport::udp` meets its contract: under four bytes nothing is put, else both ports.
+-- `fields::Header::fill_udp` meets its contract: under four bytes nothing is put, else both ports.
 -- Assumes nothing.
 use native.Mathlib.Omega.{arith}
 use Prim.Native.Nat.{◌<◌}
 use lib.ListN.{length}
 use Rattle.fields.proofs.laws.Filling.{unchanged, then}
 use Rattle.fields.proofs.Transports.{udp_short, udp_whole}
-use Rattle.fields.proofs.transport.udp.Goals as goal
+use Rattle.fields.proofs.Header.fill_udp.Goals as goal
 
 pub returns-then-part-lt4 : goal.returns-then-part-lt4
 returns-then-part-lt4 c = let short : length c.args.part.now < 4 = omega arith in
@@ -17,4 +17,4 @@ returns c = rw (
   ← c.two_at.ensures,
   ← c.two_at-2.ensures,
 )
-    (then c.put-set.ensures c.put.ensures)
+    (then c.put.ensures c.put-2.ensures)

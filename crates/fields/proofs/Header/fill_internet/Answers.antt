@@ -1,8 +1,8 @@
--- `fields::ipv4::fill_header` meets its contract: its puts are the definition's, one after the other.
+-- `fields::Header::fill_internet` meets its contract: its puts are the definition's, one after the other.
 -- Assumes nothing.
 use Rattle.fields.specs.Ipv4.{internet_puts, total_length, protocol}
 use Rattle.fields.proofs.laws.Filling.{then}
-use Rattle.fields.proofs.ipv4.fill_header.Goals as goal
+use Rattle.fields.proofs.Header.fill_internet.Goals as goal
 
 pub returns : goal.returns
 unfolding internet_puts total_length protocol
@@ -20,8 +20,8 @@ returns c = simp (
     (then
     (then
     (then
-    (then c.put-set.ensures c.put-set-2.ensures) c.put-set-3.ensures)
-    c.put-set-4.ensures)
-    c.put-set-5.ensures)
-    c.put-set-6.ensures)
-    c.put.ensures)
+    (then c.put.ensures c.put-2.ensures) c.put-3.ensures)
+    c.put-4.ensures)
+    c.put-5.ensures)
+    c.put-6.ensures)
+    c.put-7.ensures)

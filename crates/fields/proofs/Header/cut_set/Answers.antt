@@ -1,11 +1,11 @@
--- `fields::cut_set` meets its contract: where the last field of a part is there nothing is lacking; else the complement of a set is
+-- `fields::Header::cut_set` meets its contract: where the last field of a part is there nothing is lacking; else the complement of a set is
 -- what it lacks of all bits. Assumes nothing.
 use borrow.Author.Tests.{not-true}
 use native.Mathlib.Omega.{arith}
 use mathlib.Core.Path.{sym, ◌∙◌}
 use Rattle.fields.specs.Ipv4.{protocol}
 use Rattle.fields.proofs.laws.CutSet.{flags_none, code_none, ports_long, ports_none, later_none}
-use Rattle.fields.proofs.cut_set.Goals as goal
+use Rattle.fields.proofs.Header.cut_set.Goals as goal
 
 pub returns-then-in_set : goal.returns-then-in_set
 returns-then-in_set c = rw c.requires.1 (sym (flags_none _ _ (rw c.requires.1 at (sym c.in_set.ensures ∙ c.if-in_set.true))))
