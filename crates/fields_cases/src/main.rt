@@ -4,7 +4,7 @@
 
 ghost use Rattle.std.specs.Prelude.{◌≤◌, length};
 
-use fields::{FIELDS, Seen};
+use fields::{FIELDS, Header, Seen};
 use std::io;
 
 // A packet that is whole and may not be divided.
@@ -29,10 +29,10 @@ fn show(rt: &impl Print, label: &[u8], frame: &[u8]) -> io::Result<()> {
     rt.write_all(label)?;
     rt.write_all(b":")?;
     print_number(rt, frame.len() as u64)?;
-    let mut values = [0u32; FIELDS];
-    let present = fields::read_header(frame, 7, &mut values);
-    print_number(rt, present as u64)?;
-    print_number(rt, fields::cut_set(frame, present) as u64)?;
+    let mut header = Header::new();
+    header.read(frame, 7);
+    print_number(rt, header.present as u64)?;
+    print_number(rt, header.cut_set(frame) as u64)?;
     let mut i: u32 = 0;
     while i < SHOWN {
         print_seen(rt, fields::read_field(frame, 7, i))?;
