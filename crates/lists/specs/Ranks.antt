@@ -5,9 +5,8 @@
 --   fires fs r i       filter i's tests all hold, where field n reads r n; false beyond the list
 --   matches fs r i     filter i is in the match set
 --   match_set fs r      the match set as a set
-use Rattle.std.specs.Prelude.{ℕ, Bool, true, cond, not, ◌&&◌, ◌||◌, List, [], ◌∷◌, ltb, eqb, length, get_or}
+use Rattle.std.specs.Prelude.{ℕ, Bool, true, cond, not, ◌&&◌, ◌||◌, List, [], ◌∷◌, ltb, eqb, length, get_or, Option}
 use Rattle.residue.specs.Tests.{holds_of}
-use Rattle.residue.specs.declared.Reading.{Reading}
 use Rattle.sets.specs.Sets.{set_of, tally, some}
 use Rattle.lists.specs.Filters.{max_filters, Item, Filter}
 
@@ -37,15 +36,15 @@ rank_set fs i = cond (ltb i (length fs)) (set_of (tally (length fs) (λ j. above
 unfoldable pub rank_sets : List Filter → List ℕ
 rank_sets fs = tally max_filters (rank_set fs)
 
-unfoldable pub all_hold : (ℕ → Reading) → List Item → Bool
+unfoldable pub all_hold : (ℕ → Option ℕ) → List Item → Bool
 all_hold r [] = true
 all_hold r (t ∷ ts) = holds_of t.test (r t.field) && all_hold r ts
 
-unfoldable pub fires : List Filter → (ℕ → Reading) → ℕ → Bool
+unfoldable pub fires : List Filter → (ℕ → Option ℕ) → ℕ → Bool
 fires fs r i = ltb i (length fs) && all_hold r (tests_of fs i)
 
-unfoldable pub matches : List Filter → (ℕ → Reading) → ℕ → Bool
+unfoldable pub matches : List Filter → (ℕ → Option ℕ) → ℕ → Bool
 matches fs r i = fires fs r i && not (some (length fs) (λ j. above fs j i && fires fs r j))
 
-unfoldable pub match_set : List Filter → (ℕ → Reading) → ℕ
+unfoldable pub match_set : List Filter → (ℕ → Option ℕ) → ℕ
 match_set fs r = set_of (tally (length fs) (λ i. matches fs r i))

@@ -4,24 +4,23 @@
 --   matches_fires, matches_top, top_matches   matching, taken apart and put together
 --   alone_matches      a filter of group 0 matches where it fires
 --   member_match       the match set by its members
-use Rattle.std.specs.Prelude.{ℕ, zero, suc, ◌<◌, ◌≡◌, refl, ◌⊎◌, Bool, true, ◌&&◌, List, ltb, length}
+use Rattle.std.specs.Prelude.{ℕ, zero, suc, ◌<◌, ◌≡◌, refl, ◌⊎◌, Bool, true, ◌&&◌, List, ltb, length, Option}
 use Rattle.std.proofs.Common.{ap, subst, inl, inr, ⊎_elim, not-suc-le-zero, eq-or-lt_of_le, le_of_suc-le-suc}
 use Rattle.std.proofs.Math.Bool.{not}
 use borrow.Author.Tests.{ltb-true, not-true}
 use Rattle.residue.specs.laws.Choice.{same_bool, never, both, first, second, by_test, clash}
-use Rattle.residue.specs.declared.Reading.{Reading}
 use Rattle.sets.specs.Sets.{some, member}
 use Rattle.sets.specs.laws.Members.{some_true, some_none, member_tally}
 use Rattle.lists.specs.Filters.{Filter}
 use Rattle.lists.specs.Ranks.{group_of, tests_of, above, all_hold, fires, matches, match_set}
 use Rattle.lists.specs.laws.Ranking.{alone_below, above_irreflexive, above_transitive}
 
-pub record Top (fs : List Filter) (r : ℕ → Reading) (m i k : ℕ) : Type 0 where
+pub record Top (fs : List Filter) (r : ℕ → Option ℕ) (m i k : ℕ) : Type 0 where
   pub fired : fires fs r k ≡ true
   pub over : (k ≡ i) ⊎ (above fs k i ≡ true)
   pub best : (j : ℕ) → j < m → above fs j k ≡ true → fires fs r j ≡ true → ⊥
 
-module _ (fs : List Filter) (r : ℕ → Reading) where
+module _ (fs : List Filter) (r : ℕ → Option ℕ) where
   pub fires_below : (i : ℕ) → fires fs r i ≡ true → i < length fs
   unfolding fires
   fires_below i e = ltb-true i (length fs) (first (ltb i (length fs)) (all_hold r (tests_of fs i)) e)
