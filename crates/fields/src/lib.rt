@@ -94,7 +94,8 @@ impl Header {
     }
 
     // Puts the value of each field that the frame has into its word, leaves the other words, and has the set of these fields alone.
-    // Any frame will do, an empty one too.
+    // Any frame will do, an empty one too. A copy of this stands in each caller, where the set is kept in a register.
+    #[inline(always)]
     pub fn read(&mut self, frame: &[u8], port: u8)
         ensures { HeaderOf frame.now port self.old self.new }
     {
