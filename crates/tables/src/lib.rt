@@ -1,10 +1,11 @@
 // A table is a run of records, and a record has the words of its question, its next numbers and its sets (document 01, "States and the table").
 #![tactic(auto)]
 
-ghost use Rattle.std.specs.Prelude.{◌≡◌, ◌++◌, ◌+◌, ◌*◌, ◌-◌, ◌/◌, ◌≤◌, min, length, get_or, drop};
-ghost use Rattle.tables.specs.Tables.{set_words, record_words, max_slots, next_at, set_at};
-ghost use Rattle.tables.specs.inner.Records.{put_set, fresh_by, agree, record_at, agreeing_from, with_next};
+ghost use Rattle.std.specs.Prelude.{is_none, IfSome, eqb, ltb, ◌||◌, ◌<◌, ◌≡◌, ◌++◌, ◌+◌, ◌*◌, ◌-◌, ◌/◌, ◌≤◌, min, length, get_or, drop};
+ghost use Rattle.tables.specs.Tables.{set_words, record_words, max_slots, slots_of, next_at, as_words, set_at};
+ghost use Rattle.tables.specs.inner.Records.{fresh_in, fresh_by, agree, record_at, agreeing_from, with_next};
 
+use lists::TestWords;
 use residue::Outcome;
 use sets::Set;
 
@@ -34,23 +35,58 @@ pub const OUT_AT: usize = SURE_AT + SET_WORDS;
 // Words a record.
 pub const RECORD_WORDS: usize = OUT_AT + SET_WORDS;
 
-// A record with no next numbers yet: the words of its question, its sure set and its out set.
+// The words of a record.
+pub type Record = [u32; RECORD_WORDS];
+
+// A table's words and its number of states: there are some, and for each a slot and the words of a record.
 #[derive(Clone, Copy)]
+pub struct Table<'a> {
+    pub words: &'a [u32],
+    pub states: u32,
+    pub ghost some: { 0 < states },
+    pub ghost few: { states ≤ max_slots },
+    pub ghost in_bounds: { record_words * states ≤ length words.now },
+}
+
+impl<'a> Table<'a> {
+    // The table of so many states in these words; none where the number does not fit them. It is held to the words by a product,
+    // which needs no division.
+    #[tactic(auto, using(crate::proofs::laws::Least::slots_least))]
+    pub fn new(words: &'a [u32], states: u32) -> Option<Table<'a>>
+        ensures fits { is_none result ≡ (eqb states 0 || ltb (slots_of words.now) states) }
+        ensures parts { IfSome result (λ t. (t.words.now ≡ words.now) × (t.states ≡ states)) }
+    {
+        let n = states as usize;
+        if n != 0 && n <= MAX_SLOTS && RECORD_WORDS * n <= words.len() {
+            Some(Table { words, states })
+        } else {
+            None
+        }
+    }
+
+    // The words of a record.
+    pub fn record(&self, n: u32) -> &'a Record
+        requires { n < self.now.states }
+        ensures { result.now ≡ record_at self.now.words.now n }
+    {
+        record_of(self.words, n as usize)
+    }
+}
+
+// What a record has before its next numbers are known: its sets and the words of its question. Of two records the out sets differ
+// most often and then the sure sets, so these are compared first.
+#[derive(Clone, Copy, Debug, PartialEq, Eq)]
 pub struct Fresh {
-    pub kind: u32,
-    pub field: u32,
-    pub mask: u32,
-    pub value: u32,
-    pub sure: Set,
     pub out: Set,
+    pub sure: Set,
+    pub asked: TestWords,
 }
 
 // The slots of a table of so many words.
 pub fn slots_of(words: usize) -> usize
     ensures { result ≡ min (words / record_words) max_slots }
 {
-    let whole = words / RECORD_WORDS;
-    if whole < MAX_SLOTS { whole } else { MAX_SLOTS }
+    (words / RECORD_WORDS).min(MAX_SLOTS)
 }
 
 // The place in a record of the next number at an outcome.
@@ -75,32 +111,12 @@ pub fn put_next(table: &mut [u32], n: usize, o: Outcome, next: u32)
     table[at] = next;
 }
 
-// Puts a set into the words from a place on, its low half first.
-#[tactic(auto, unfolding(crate::specs::inner::Records::put_set))]
-fn put_set(words: &mut [u32], at: usize, set: Set)
-    requires { at + set_words ≤ length words.old }
-    ensures { words.new ≡ put_set at set words.old }
+// A set as two words, its low half first.
+#[tactic(auto, unfolding(crate::specs::Tables::as_words))]
+fn halves(set: Set) -> [u32; SET_WORDS]
+    ensures { result ≡ as_words set }
 {
-    let low = sets::low_half(set);
-    let high = sets::high_half(set);
-    words[at] = low;
-    words[at + 1] = high;
-}
-
-// Writes a record with no next numbers yet into the front of the words.
-pub fn write_fresh(words: &mut [u32], fresh: Fresh)
-    requires { record_words ≤ length words.old }
-    ensures { words.new ≡ fresh_by fresh ++ drop record_words words.old }
-{
-    words[KIND_AT] = fresh.kind;
-    words[FIELD_AT] = fresh.field;
-    words[MASK_AT] = fresh.mask;
-    words[VALUE_AT] = fresh.value;
-    words[HOLDS_AT] = 0;
-    words[FAILS_AT] = 0;
-    words[ABSENT_AT] = 0;
-    put_set(words, SURE_AT, fresh.sure);
-    put_set(words, OUT_AT, fresh.out);
+    [sets::low_half(set), sets::high_half(set)]
 }
 
 // The set that the words from a place on say.
@@ -114,30 +130,70 @@ pub fn set_at(words: &[u32], at: usize) -> Set
     sets::of_halves(low, high)
 }
 
-// Whether record n has the question and the sets of a fresh one, whatever its next numbers. Sets first, the out set before the sure set: of two records they differ most often.
+// The words of a record of a table.
+#[tactic(auto, unfolding(crate::specs::inner::Records::record_at))]
+fn record_of(words: &[u32], n: usize) -> &Record
+    requires { record_words * (n + 1) ≤ length words.now }
+    ensures { result.now ≡ record_at words.now n }
+{
+    let at = RECORD_WORDS * n;
+    words[at..at + RECORD_WORDS].as_array().unwrap()
+}
+
+impl Fresh {
+    // The sets and the question of a record, whatever its next numbers.
+    #[tactic(auto, unfolding(crate::specs::inner::Records::fresh_in))]
+    fn of(words: &Record) -> Fresh
+        ensures { result ≡ fresh_in words.now }
+    {
+        Fresh {
+            out: set_at(words, OUT_AT),
+            sure: set_at(words, SURE_AT),
+            asked: TestWords::at(words, KIND_AT),
+        }
+    }
+
+    // The words of the record, with the next numbers 0.
+    #[tactic(auto, unfolding(crate::specs::inner::Records::fresh_by, crate::specs::inner::Records::fresh_record, crate::specs::Tables::record_with, crate::specs::Tables::as_words))]
+    fn words(self) -> Record
+        ensures { result ≡ fresh_by self }
+    {
+        let TestWords {
+            kind,
+            field,
+            mask,
+            value,
+        } = self.asked;
+        let [sure_low, sure_high] = halves(self.sure);
+        let [out_low, out_high] = halves(self.out);
+        [
+            kind, field, mask, value, 0, 0, 0, sure_low, sure_high, out_low, out_high,
+        ]
+    }
+}
+
+// Writes a record with no next numbers yet into the front of the words.
+pub fn write_fresh(words: &mut [u32], fresh: Fresh)
+    requires { record_words ≤ length words.old }
+    ensures { words.new ≡ fresh_by fresh ++ drop record_words words.old }
+{
+    words[..RECORD_WORDS].copy_from_slice(&fresh.words());
+}
+
+// Whether a record of a table has the question and the sets of a fresh one, whatever its next numbers.
+#[tactic(auto, using(crate::proofs::laws::Agreeing::agree_parts))]
 fn agrees(table: &[u32], n: usize, fresh: Fresh) -> bool
     requires { record_words * (n + 1) ≤ length table.now }
     ensures { result ≡ agree (record_at table.now n) (fresh_by fresh) }
 {
-    let first = RECORD_WORDS * n;
-    let words = &table[first..first + RECORD_WORDS];
-    if set_at(words, OUT_AT) != fresh.out {
-        return false;
-    }
-    if set_at(words, SURE_AT) != fresh.sure {
-        return false;
-    }
-    let test = (words[KIND_AT] == fresh.kind) & (words[FIELD_AT] == fresh.field);
-    test & (words[MASK_AT] == fresh.mask) & (words[VALUE_AT] == fresh.value)
+    Fresh::of(record_of(table, n)) == fresh
 }
 
-// The first record from a place on, before an end, that agrees with a fresh one; the end where none does.
-pub fn agreeing(table: &[u32], from: usize, end: usize, fresh: Fresh) -> usize
+// The first record from a place on, before an end, that has the question and the sets of a fresh one; none where no record has.
+pub fn agreeing(table: &[u32], from: usize, end: usize, fresh: Fresh) -> Option<usize>
     requires from_le_end { from ≤ end }
     requires end_in_bounds { record_words * end ≤ length table.now }
     ensures { result ≡ agreeing_from (end - from) from table.now (fresh_by fresh) }
 {
-    (from..end)
-        .find(|at| agrees(table, *at, fresh))
-        .unwrap_or(end)
+    (from..end).find(|n| agrees(table, *n, fresh))
 }

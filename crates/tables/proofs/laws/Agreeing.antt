@@ -1,22 +1,28 @@
 -- Records that have the same question and the same sets.
 --   agree_self      a record agrees with itself
 --   agree_next      a next number that is put in changes nothing of it
---   agreeing_in     the first record that agrees lies among those looked at, or behind them all
---   agreeing_over   none before it agrees
---   agreeing_here, agreeing_on   whether the next record agrees decides
+--   agree_parts     it agrees with a fresh one where the sets and the question are those of it
+--   agreeing_find   the first that agrees is what the library's find says
+--   First, agreeing_first   it is one of those looked at, agrees, and none before it does
+--   agreeing_none   where there is none, none of those looked at agrees
 use Prim.Native.Nat.{ℕ, zero, suc, ◌+◌, ◌≤◌, ◌<◌}
 use native.Mathlib.Omega.{arith}
-use Rattle.std.specs.Prelude.{◌≡◌, Bool, List, get_or, set}
-use Rattle.std.proofs.Math.Path.{refl, subst}
-use Rattle.std.proofs.Common.{sym, lit<, get_or-set_other}
-use Rattle.std.proofs.Math.Bool.{true, false, cond}
+use Rattle.std.specs.Prelude.{◌≡◌, List, ◌&&◌, get_or, set, None, Some}
+use Rattle.std.specs.List.{find, range_with_len}
+use Rattle.std.proofs.Math.Path.{refl, subst, ap}
+use Rattle.std.proofs.Common.{lit<, get_or-set_other}
+use Rattle.std.proofs.Math.Bool.{true, false, cond, and_assoc}
 use Rattle.std.proofs.Math.Dec.{eqb}
 use borrow.Author.Tests.{eq-eqb, eqb-true, eqb-false}
+use Rattle.residue.specs.laws.Choice.{by_test}
 use Rattle.residue.specs.declared.Outcome.{Outcome}
 use Rattle.residue.specs.declared.Outcome.TheVariants.{Holds, Fails, Absent}
 use Rattle.lists.specs.Filters.{kind_at, field_at, mask_at, value_at}
-use Rattle.tables.specs.Tables.{sure_at, out_at, next_at, set_at}
-use Rattle.tables.specs.inner.Records.{agree, record_at, agreeing_from}
+use Rattle.lists.specs.Words.{test_list, words_of}
+use Rattle.tables.specs.Tables.{sure_at, out_at, next_at, set_at, record_with}
+use Rattle.tables.specs.declared.Fresh.{Fresh}
+use Rattle.tables.specs.inner.Records.{fresh_record, fresh_by, fresh_in, agree, record_at, agreeing_from}
+use Rattle.tables.proofs.laws.Layout.{sure_in, out_in}
 
 pub agree_self : (r : List ℕ) → agree r r ≡ true
 unfolding agree
@@ -60,46 +66,67 @@ agree_next o v r f =
       get_or-set_other r (next_at o) value_at v 0 (λ (e : value_at ≡ next_at o). omega arith),
     )
 
+-- ---- a fresh record
+
+module _ (f : Fresh) where
+  fresh_out : set_at (λ j. get_or (fresh_by f) j 0) out_at ≡ f.out
+  unfolding fresh_by fresh_record
+  fresh_out = out_in (test_list f.asked) (λ _. 0) f.sure f.out refl
+
+  fresh_sure : set_at (λ j. get_or (fresh_by f) j 0) sure_at ≡ f.sure
+  unfolding fresh_by fresh_record
+  fresh_sure = sure_in (test_list f.asked) (λ _. 0) f.sure f.out refl
+
+  pub agree_parts :
+      (r : List ℕ) →
+      agree r (fresh_by f) ≡
+      (eqb (fresh_in r).out f.out && (eqb (fresh_in r).sure f.sure &&
+      (eqb (fresh_in r).asked.kind f.asked.kind && (eqb (fresh_in r).asked.field f.asked.field &&
+      (eqb (fresh_in r).asked.mask f.asked.mask && eqb (fresh_in r).asked.value f.asked.value)))))
+  unfolding agree fresh_in fresh_by fresh_record record_with words_of
+  agree_parts r = rw (fresh_out, fresh_sure) (simp and_assoc)
+
 -- ---- the first record that agrees
 
 module _ (t f : List ℕ) where
-  pub agreeing_here : (k n : ℕ) → agree (record_at t n) f ≡ true → agreeing_from (suc k) n t f ≡ n
+  pub agreeing_find : (k n : ℕ) → agreeing_from k n t f ≡ find (λ i. agree (record_at t i) f) (range_with_len n k)
   unfolding agreeing_from
-  agreeing_here k n e = rw e
+  agreeing_find zero n = refl
+  agreeing_find (suc k) n = ap (λ r. cond (agree (record_at t n) f) (Some n) r) (agreeing_find k (n + 1))
 
-  pub agreeing_on : (k n : ℕ) → agree (record_at t n) f ≡ false → agreeing_from (suc k) n t f ≡ agreeing_from k (n + 1) t f
-  unfolding agreeing_from
-  agreeing_on k n e = rw e
+  -- It is one of those looked at, and agrees, and none before it does.
+  pub record First (k n i : ℕ) : Type 0 where
+    pub from : n ≤ i
+    pub below : i < n + k
+    pub agrees : agree (record_at t i) f ≡ true
+    pub over : (j : ℕ) → n ≤ j → j < i → agree (record_at t j) f ≡ false
 
-  pub agreeing_end : (n : ℕ) → agreeing_from 0 n t f ≡ n
-  unfolding agreeing_from
-  agreeing_end n = refl
+  -- What is so of the first place and of those behind it is so of each.
+  each_from : (n j : ℕ) (P : ℕ → Type 0) → n ≤ j → P n → (n + 1 ≤ j → P j) → P j
+  each_from n j P low here behind = by_test (P j) (eqb n j) (λ q. subst P (eqb-true n j q) here) (λ q. let other = eqb-false n j q in behind (omega arith))
 
-  pub agreeing_in : (k n : ℕ) → (n ≤ agreeing_from k n t f) × (agreeing_from k n t f ≤ n + k)
+  pub agreeing_first : (k n i : ℕ) → agreeing_from k n t f ≡ Some i → First k n i
   unfolding agreeing_from
-  agreeing_in zero n = (omega arith, omega arith)
-  agreeing_in (suc k) n = go (agree (record_at t n) f) (agreeing_in k (n + 1))
-    where
-      go : (b : Bool) → (n + 1 ≤ agreeing_from k (n + 1) t f) × (agreeing_from k (n + 1) t f ≤ n + 1 + k)
-          → (n ≤ cond b n (agreeing_from k (n + 1) t f)) × (cond b n (agreeing_from k (n + 1) t f) ≤ n + suc k)
-      go true h = (omega arith, omega arith)
-      go false h =
-          let low = h.0 in
-          let high = h.1 in
-          (omega arith, omega arith)
+  agreeing_first zero n i e = absurd cc
+  agreeing_first (suc k) n i e =
+      by_test (First (suc k) n i) (agree (record_at t n) f)
+      (λ h.
+      let found : Some n ≡ Some i = rw h at e in
+      let here : n ≡ i = cc in
+      record { from = omega arith; below = omega arith; agrees = subst (λ j. agree (record_at t j) f ≡ true) here h; over = λ j low high. absurd (omega arith) })
+      (λ h.
+      let next = agreeing_first k (n + 1) i (rw h at e) in
+      record {
+        from = omega (arith, next.from);
+        below = omega (arith, next.below);
+        agrees = next.agrees;
+        over = λ j low high. each_from n j (λ m. agree (record_at t m) f ≡ false) low h (λ behind. next.over j behind high);
+      })
 
-  pub agreeing_over : (k n j : ℕ) → n ≤ j → j < agreeing_from k n t f → agree (record_at t j) f ≡ false
+  pub agreeing_none : (k n : ℕ) → agreeing_from k n t f ≡ None → (j : ℕ) → n ≤ j → j < n + k → agree (record_at t j) f ≡ false
   unfolding agreeing_from
-  agreeing_over zero n j low high = absurd (omega arith)
-  agreeing_over (suc k) n j low high = go (agree (record_at t n) f) refl (λ h g. agreeing_over k (n + 1) j h g) high
-    where
-      go : (b : Bool) → agree (record_at t n) f ≡ b → (n + 1 ≤ j → j < agreeing_from k (n + 1) t f → agree (record_at t j) f ≡ false)
-          → j < cond b n (agreeing_from k (n + 1) t f) → agree (record_at t j) f ≡ false
-      go true e later h = absurd (omega arith)
-      go false e later h = at (eqb j n) refl
-        where
-          at : (c : Bool) → eqb j n ≡ c → agree (record_at t j) f ≡ false
-          at true q = subst (λ (i : ℕ). agree (record_at t i) f ≡ false) (sym (eqb-true j n q)) e
-          at false q =
-              let other = eqb-false j n q in
-              later (omega arith) h
+  agreeing_none zero n e j low high = absurd (omega arith)
+  agreeing_none (suc k) n e j low high =
+      by_test (agree (record_at t j) f ≡ false) (agree (record_at t n) f)
+      (λ h. let found : Some n ≡ None = rw h at e in absurd cc)
+      (λ h. each_from n j (λ m. agree (record_at t m) f ≡ false) low h (λ behind. agreeing_none k (n + 1) (rw h at e) j behind (omega arith)))

@@ -1,30 +1,30 @@
 -- The parts of a record in a table, and what changes them.
 --   ask_words                    words a question
---   put_set j s ws               the words ws with the set s in the words from place j on
 --   fresh_record q s o           a record with no next numbers yet; fresh_by f the words of the code's Fresh
+--   fresh_in r                   what the code's Fresh has of the record r
 --   agree r f                   the records r and f have the same question and the same sets, whatever their next numbers
 --   record_at t n                all words of record n
---   agreeing_from k n t f        the first of k records from record n on that agrees with f; n + k where none does
+--   agreeing_from k n t f        the first of k records from record n on that agrees with f; none where none does
 --   question_at t n, way_at t n o   the words of its question, its next numbers
 --   with_next n o v t            the table t with v as the next number of record n at o
-use Rattle.std.specs.Prelude.{ℕ, zero, suc, ◌+◌, ◌*◌, Bool, cond, ◌&&◌, List, [], ◌∷◌, eqb, get_or, take, drop, set}
+use Rattle.std.specs.Prelude.{ℕ, zero, suc, ◌+◌, ◌*◌, Bool, cond, ◌&&◌, List, [], ◌∷◌, eqb, get_or, take, drop, set, Option, None, Some}
 use Rattle.residue.specs.declared.Outcome.{Outcome}
-use Rattle.sets.specs.Halves.{low_half, high_half}
 use Rattle.lists.specs.Filters.{test_words, kind_at, field_at, mask_at, value_at}
+use Rattle.lists.specs.Words.{test_list, words_of}
 use Rattle.tables.specs.declared.Fresh.{Fresh}
 use Rattle.tables.specs.Tables.{sure_at, out_at, record_words, next_at, set_at, record_with, word_of}
 
 abbrev pub ask_words : ℕ
 ask_words = test_words
 
-unfoldable pub put_set : ℕ → ℕ → List ℕ → List ℕ
-put_set j s ws = set (set ws j (low_half s)) (j + 1) (high_half s)
-
 unfoldable pub fresh_record : List ℕ → ℕ → ℕ → List ℕ
 fresh_record q s o = record_with q (λ _. 0) s o
 
 unfoldable pub fresh_by : Fresh → List ℕ
-fresh_by f = fresh_record (f.kind ∷ f.field ∷ f.mask ∷ f.value ∷ []) f.sure f.out
+fresh_by f = fresh_record (test_list f.asked) f.sure f.out
+
+unfoldable pub fresh_in : List ℕ → Fresh
+fresh_in r = record { out = set_at (λ j. get_or r j 0) out_at; sure = set_at (λ j. get_or r j 0) sure_at; asked = words_of r }
 
 unfoldable pub agree : List ℕ → List ℕ → Bool
 agree r f =
@@ -38,9 +38,9 @@ agree r f =
 unfoldable pub record_at : List ℕ → ℕ → List ℕ
 record_at t n = take record_words (drop (record_words * n) t)
 
-unfoldable pub agreeing_from : ℕ → ℕ → List ℕ → List ℕ → ℕ
-agreeing_from zero n t f = n
-agreeing_from (suc k) n t f = cond (agree (record_at t n) f) n (agreeing_from k (n + 1) t f)
+unfoldable pub agreeing_from : ℕ → ℕ → List ℕ → List ℕ → Option ℕ
+agreeing_from zero n t f = None
+agreeing_from (suc k) n t f = cond (agree (record_at t n) f) (Some n) (agreeing_from k (n + 1) t f)
 
 unfoldable pub question_at : List ℕ → ℕ → List ℕ
 question_at t n = word_of t n kind_at ∷ word_of t n field_at ∷ word_of t n mask_at ∷ word_of t n value_at ∷ []
