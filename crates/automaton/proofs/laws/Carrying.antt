@@ -1,7 +1,7 @@
 -- A machine carried to another: an encoding that respects asks, step and same carries the states met, their records and how they are placed.
 --   Carried M N Good enc      enc takes the good states of M to states of N that ask, step and read alike
 --   SameCarried M N Good enc  they compare alike
-use Rattle.std.specs.Prelude.{ℕ, suc, ◌+◌, ◌<◌, ◌≡◌, Bool, ◌||◌, leb, length}
+use Rattle.std.specs.Prelude.{ℕ, suc, ◌+◌, ◌<◌, ◌≡◌, Bool, ◌||◌, leb, length, None, Some}
 use Rattle.std.proofs.Math.Path.{refl}
 use Rattle.std.proofs.Common.{ap, ◌∙◌}
 use Rattle.std.proofs.Math.Bool.{true, false, cond}
@@ -15,7 +15,7 @@ use Rattle.automaton.proofs.laws.Lists.{each_nil, each_cons, each_head, each_tai
 use Rattle.automaton.specs.inner.Lawful.{Lawful}
 use Rattle.automaton.proofs.laws.Visited.{Visits, old, final, asking, visits_exist, visits_visit}
 use Rattle.automaton.proofs.laws.Reaching.{visits_good}
-use Rattle.automaton.specs.inner.Placing.{slotless, slotted, place_all}
+use Rattle.automaton.specs.inner.Placing.{place_all}
 use Rattle.automaton.proofs.laws.MetPlaced.{Fit, placed_visits}
 use Rattle.automaton.specs.inner.Placing.{holding}
 
@@ -110,7 +110,7 @@ module _ {M N : Machine} {Good : M.State → Type 0} {left : M.State → ℕ} {e
   pub placed_carried : (slots f : ℕ) (s₀ : M.State) → Good s₀ → left s₀ < suc f
       → place_all N slots f (enc s₀)
       ≡ cond (leb (length (visit M (suc f) [] s₀)) slots)
-      (slotted (holding (map enc (visit M (suc f) [] s₀)) (map (record_of M (visit M (suc f) [] s₀)) (visit M (suc f) [] s₀)))) slotless
+      (Some (holding (map enc (visit M (suc f) [] s₀)) (map (record_of M (visit M (suc f) [] s₀)) (visit M (suc f) [] s₀)))) None
   placed_carried slots f s₀ g h =
       let v = visits_exist law f [] s₀ g h in
       let good = visits_good law v.1 (each_nil Good) g in

@@ -1,6 +1,6 @@
 -- The builder places exactly the states met, each with its record, or finds no slot where they are more than the slots.
 --   Fit M s             what placing asks of a state: it is the same as itself, and its question has the words of one
-use Rattle.std.specs.Prelude.{ℕ, zero, suc, ◌≤◌, ◌<◌, ◌≡◌, refl, Bool, true, false, cond, List, [], ◌∷◌, ◌++◌, map, leb, length, set}
+use Rattle.std.specs.Prelude.{ℕ, zero, suc, ◌≤◌, ◌<◌, ◌≡◌, refl, Bool, true, false, cond, List, [], ◌∷◌, ◌++◌, map, leb, length, set, None, Some}
 use Rattle.std.proofs.Common.{arith, sym, ap, ◌∙◌, subst, append_assoc, append-nil, length-append, leb-true, leb-false, le-leb}
 use Rattle.std.proofs.lemmas.Bool.{false≢true, lt-leb}
 use Rattle.std.proofs.lemmas.List.{map-append, length-map, get_or_at, set_at}
@@ -11,7 +11,7 @@ use Rattle.tables.specs.inner.Records.{ask_words, fresh_record}
 use Rattle.tables.proofs.laws.Layout.{fresh_linked}
 use Rattle.automaton.specs.Machines.{Machine, meets, place_of, nexts_of, record_of}
 use Rattle.automaton.proofs.laws.Lists.{each_head, each_tail, each_left, each_right, Each, Begins, begins_refl, begins_append, begins_trans, begins_length}
-use Rattle.automaton.specs.inner.Placing.{holding, Memory, Placement, slotless, slotted, fresh_of, stored, linked, and_then, place_way, place_state, place_all}
+use Rattle.automaton.specs.inner.Placing.{holding, Memory, Placement, fresh_of, stored, linked, and_then, place_way, place_state, place_all}
 use Rattle.automaton.proofs.laws.Visited.{Visits, old, final, asking, three_ways}
 use Rattle.automaton.proofs.laws.Places.{meets_nil, place_begins, place_begins_new}
 
@@ -24,13 +24,13 @@ abbrev WaySlotted : (M : Machine) (slots f : ℕ) (whole met : List M.State) (t 
 WaySlotted M slots f whole met t news =
     (o : Outcome) (at : ℕ) (s : M.State) (before after : List (List ℕ)) (r : List ℕ) → M.step o s ≡ t → length before ≡ at → length (before ++ r ∷ after) ≡ length met
     → place_way M slots (place_state M slots f) o at s (holding met (before ++ r ∷ after))
-    ≡ slotted (holding (met ++ news) (before ++ set r (next_at o) (place_of M whole t) ∷ (after ++ map (record_of M whole) news)))
+    ≡ Some (holding (met ++ news) (before ++ set r (next_at o) (place_of M whole t) ∷ (after ++ map (record_of M whole) news)))
 
 -- A way with a state that finds no slot.
 abbrev WaySlotless : (M : Machine) (slots f : ℕ) (met : List M.State) (t : M.State) → Type 0
 WaySlotless M slots f met t =
     (o : Outcome) (at : ℕ) (s : M.State) (before after : List (List ℕ)) (r : List ℕ) → M.step o s ≡ t → length before ≡ at → length (before ++ r ∷ after) ≡ length met
-    → place_way M slots (place_state M slots f) o at s (holding met (before ++ r ∷ after)) ≡ slotless
+    → place_way M slots (place_state M slots f) o at s (holding met (before ++ r ∷ after)) ≡ None
 
 -- A record that gets its next numbers.
 
@@ -62,25 +62,25 @@ record_asking M whole s q fit =
 -- One way, case by case.
 
 pub way_old : (M : Machine) (slots : ℕ) (build : ℕ → M.State → Memory M → Placement M) (o : Outcome) (at : ℕ) (s t : M.State) (m : Memory M)
-    → M.step o s ≡ t → meets M m.met t ≡ true → place_way M slots build o at s m ≡ slotted (linked M o at (place_of M m.met t) m)
+    → M.step o s ≡ t → meets M m.met t ≡ true → place_way M slots build o at s m ≡ Some (linked M o at (place_of M m.met t) m)
 unfolding place_way
 way_old M slots build o at s t m leads e = rw (← leads, rw (← leads) at e, place_way)
 
 pub way_unslotted : (M : Machine) (slots : ℕ) (build : ℕ → M.State → Memory M → Placement M) (o : Outcome) (at : ℕ) (s t : M.State) (m : Memory M)
-    → M.step o s ≡ t → meets M m.met t ≡ false → slots ≤ length m.met → place_way M slots build o at s m ≡ slotless
+    → M.step o s ≡ t → meets M m.met t ≡ false → slots ≤ length m.met → place_way M slots build o at s m ≡ None
 unfolding place_way
 way_unslotted M slots build o at s t m leads e h = rw (rw (← leads) at e, place_way, le-leb slots (length m.met) h)
 
 pub way_new : (M : Machine) (slots : ℕ) (build : ℕ → M.State → Memory M → Placement M) (o : Outcome) (at : ℕ) (s t : M.State) (m : Memory M)
     → M.step o s ≡ t → meets M m.met t ≡ false → length m.met < slots
     → place_way M slots build o at s m
-    ≡ and_then M (build (length m.met) t (stored M t m)) (λ m'. slotted (linked M o at (length m.met) m'))
+    ≡ and_then M (build (length m.met) t (stored M t m)) (λ m'. Some (linked M o at (length m.met) m'))
 unfolding place_way
 way_new M slots build o at s t m leads e h = rw (← leads, rw (← leads) at e, place_way, lt-leb slots (length m.met) h)
 
 -- The ways of a state, case by case.
 
-pub state_final : (M : Machine) (slots f at : ℕ) (s : M.State) (m : Memory M) → M.asks s ≡ false → place_state M slots f at s m ≡ slotted m
+pub state_final : (M : Machine) (slots f at : ℕ) (s : M.State) (m : Memory M) → M.asks s ≡ false → place_state M slots f at s m ≡ Some m
 unfolding place_state
 state_final M slots zero at s m q = refl
 state_final M slots (suc f) at s m q = rw (q, place_state)
@@ -94,21 +94,21 @@ unfolding place_state
 state_asking M slots f at s m q = rw (q, place_state)
 
 pub state_slotless : (M : Machine) (slots f at : ℕ) (s : M.State) (m : Memory M) → M.asks s ≡ true
-    → place_way M slots (place_state M slots f) Holds at s m ≡ slotless
-    → place_state M slots (suc f) at s m ≡ slotless
+    → place_way M slots (place_state M slots f) Holds at s m ≡ None
+    → place_state M slots (suc f) at s m ≡ None
 unfolding and_then
 state_slotless M slots f at s m q v = rw (state_asking M slots f at s m q, v)
 
 pub state_slotted_slotless : (M : Machine) (slots f at : ℕ) (s : M.State) (m m₁ : Memory M) → M.asks s ≡ true
-    → place_way M slots (place_state M slots f) Holds at s m ≡ slotted m₁
-    → place_way M slots (place_state M slots f) Fails at s m₁ ≡ slotless
-    → place_state M slots (suc f) at s m ≡ slotless
+    → place_way M slots (place_state M slots f) Holds at s m ≡ Some m₁
+    → place_way M slots (place_state M slots f) Fails at s m₁ ≡ None
+    → place_state M slots (suc f) at s m ≡ None
 unfolding and_then
 state_slotted_slotless M slots f at s m m₁ q v w = rw (state_asking M slots f at s m q, v, w)
 
 pub state_slotted : (M : Machine) (slots f at : ℕ) (s : M.State) (m m₁ m₂ : Memory M) (p : Placement M) → M.asks s ≡ true
-    → place_way M slots (place_state M slots f) Holds at s m ≡ slotted m₁
-    → place_way M slots (place_state M slots f) Fails at s m₁ ≡ slotted m₂
+    → place_way M slots (place_state M slots f) Holds at s m ≡ Some m₁
+    → place_way M slots (place_state M slots f) Fails at s m₁ ≡ Some m₂
     → place_way M slots (place_state M slots f) Absent at s m₂ ≡ p
     → place_state M slots (suc f) at s m ≡ p
 unfolding and_then
@@ -118,13 +118,13 @@ state_slotted M slots f at s m m₁ m₂ p q v w z = rw (state_asking M slots f 
 new_slotted : (M : Machine) (slots : ℕ) (build : ℕ → M.State → Memory M → Placement M) (o : Outcome) (at : ℕ) (s t : M.State)
     (met out : List M.State) (before after behind : List (List ℕ)) (r : List ℕ)
     → M.step o s ≡ t → meets M met t ≡ false → length met < slots → length before ≡ at
-    → build (length met) t (stored M t (holding met (before ++ r ∷ after))) ≡ slotted (holding out (before ++ r ∷ after ++ behind))
+    → build (length met) t (stored M t (holding met (before ++ r ∷ after))) ≡ Some (holding out (before ++ r ∷ after ++ behind))
     → place_way M slots build o at s (holding met (before ++ r ∷ after))
-    ≡ slotted (holding out (before ++ set r (next_at o) (length met) ∷ (after ++ behind)))
+    ≡ Some (holding out (before ++ set r (next_at o) (length met) ∷ (after ++ behind)))
 unfolding and_then
 new_slotted M slots build o at s t met out before after behind r leads e h hb built =
     rw (way_new M slots build o at s t (holding met (before ++ r ∷ after)) leads e h, built, append_assoc before (r ∷ after) behind)
-    (ap slotted (linked_at M o at (length met) out before (after ++ behind) r hb))
+    (ap Some (linked_at M o at (length met) out before (after ++ behind) r hb))
 
 longer_begins : {A : Type 0} (met a b c : List A) (s : A) {whole : List A} → Begins (met ++ s ∷ (a ++ b ++ c)) whole
     → Begins (met ++ s ∷ [] ++ a) whole × Begins (met ++ s ∷ [] ++ a ++ b) whole × Begins (met ++ s ∷ [] ++ a ++ b ++ c) whole
@@ -143,7 +143,7 @@ three_slotted : (M : Machine) (slots f : ℕ) (whole met a b c : List M.State) (
     → WaySlotted M slots f whole (met ++ s ∷ [] ++ a) (M.step Fails s) b
     → WaySlotted M slots f whole (met ++ s ∷ [] ++ a ++ b) (M.step Absent s) c
     → place_state M slots (suc f) (length met) s (holding (met ++ s ∷ []) (records ++ fresh_of M s ∷ []))
-    ≡ slotted (holding (met ++ s ∷ (a ++ b ++ c)) (records ++ map (record_of M whole) (s ∷ (a ++ b ++ c))))
+    ≡ Some (holding (met ++ s ∷ (a ++ b ++ c)) (records ++ map (record_of M whole) (s ∷ (a ++ b ++ c))))
 three_slotted M slots f whole met a b c s records q fit h v w z =
     rw (← three_ways met s a b c, map-append (record_of M whole) (a ++ b) c, map-append (record_of M whole) a b, ← record_asking M whole s q fit)
     (state_slotted M slots f (length met) s _ _ _ _ q
@@ -163,7 +163,7 @@ built_slotted : (M : Machine) (slots f : ℕ) (whole met a b c : List M.State) (
     → SlottedIf M slots f whole (met ++ s ∷ [] ++ a) (M.step Fails s) b
     → SlottedIf M slots f whole (met ++ s ∷ [] ++ a ++ b) (M.step Absent s) c
     → place_state M slots (suc f) (length met) s (holding (met ++ s ∷ []) (records ++ fresh_of M s ∷ []))
-    ≡ slotted (holding (met ++ s ∷ (a ++ b ++ c)) (records ++ map (record_of M whole) (s ∷ (a ++ b ++ c))))
+    ≡ Some (holding (met ++ s ∷ (a ++ b ++ c)) (records ++ map (record_of M whole) (s ∷ (a ++ b ++ c))))
 built_slotted M slots f whole met a b c s records q h fits begins bound v w z =
     let longer = longer_begins met a b c s (begins_refl (met ++ s ∷ (a ++ b ++ c))) in
     let inside = longer_begins met a b c s begins in
@@ -179,7 +179,7 @@ unfolding stored
 way_slotted M slots whole {f} {met} {t} (old e) fits begins bound o at s before after r leads hb hl =
     rw (append-nil met, append-nil after, place_begins M t (begins_trans (begins_append met []) begins) e)
     (way_old M slots (place_state M slots f) o at s t (holding met (before ++ r ∷ after)) leads e
-    ∙ ap slotted (linked_at M o at (place_of M met t) met before after r hb))
+    ∙ ap Some (linked_at M o at (place_of M met t) met before after r hb))
 way_slotted M slots whole {f} {met} {t} (final e q) fits begins bound o at s before after r leads hb hl =
     rw (place_begins_new M met [] t begins e (each_head fits).itself, ← record_final M whole t q)
     (new_slotted M slots (place_state M slots f) o at s t met (met ++ t ∷ []) before after (fresh_of M t ∷ []) r leads e (new_bound met [] t slots bound) hb
@@ -205,7 +205,7 @@ built_slotless : (M : Machine) (slots f : ℕ) (met a b c : List M.State) (s : M
     → SlotlessIf M slots f (met ++ s ∷ []) (M.step Holds s) a
     → SlotlessIf M slots f (met ++ s ∷ [] ++ a) (M.step Fails s) b
     → SlotlessIf M slots f (met ++ s ∷ [] ++ a ++ b) (M.step Absent s) c
-    → place_state M slots (suc f) (length met) s (holding (met ++ s ∷ []) (records ++ fresh_of M s ∷ [])) ≡ slotless
+    → place_state M slots (suc f) (length met) s (holding (met ++ s ∷ []) (records ++ fresh_of M s ∷ [])) ≡ None
 built_slotless M slots f met a b c s records q h fits one over v w slotless-a slotless-b slotless-c =
     go (leb (length (met ++ s ∷ [] ++ a)) slots) (leb (length (met ++ s ∷ [] ++ a ++ b)) slots) refl refl
   where
@@ -226,7 +226,7 @@ built_slotless M slots f met a b c s records q h fits one over v w slotless-a sl
     long_b whole r = simp (length-append, length-map) (omega arith)
 
     go : (x y : Bool) → leb (length (met ++ s ∷ [] ++ a)) slots ≡ x → leb (length (met ++ s ∷ [] ++ a ++ b)) slots ≡ y
-        → place_state M slots (suc f) (length met) s (holding (met ++ s ∷ []) (records ++ fresh_of M s ∷ [])) ≡ slotless
+        → place_state M slots (suc f) (length met) s (holding (met ++ s ∷ []) (records ++ fresh_of M s ∷ [])) ≡ None
     go false y p p' =
         state_slotless M slots f (length met) s _ q
         (slotless-a fits_a (simp length-append (omega arith)) (leb-false _ slots p) Holds (length met) s records [] (fresh_of M s) refl h long)
@@ -237,19 +237,19 @@ built_slotless M slots f met a b c s records q h fits one over v w slotless-a sl
         (slotless-b fits_b (leb-true _ slots p) (leb-false _ slots p') Fails (length met) s records (map (record_of M whole) a) _ refl h (long_a whole _))
     go true true p p' =
         let whole = met ++ s ∷ [] ++ a ++ b in
-        state_slotted M slots f (length met) s _ _ _ slotless q
+        state_slotted M slots f (length met) s _ _ _ None q
         (way_slotted M slots whole v fits_a (begins_append (met ++ s ∷ [] ++ a) b) (leb-true _ slots p) Holds (length met) s records [] (fresh_of M s) refl h long)
         (way_slotted M slots whole w fits_b (begins_refl whole) (leb-true _ slots p') Fails (length met) s records (map (record_of M whole) a) _ refl h (long_a whole _))
         (slotless-c (each_right (a ++ b) c (each_tail fits)) (leb-true _ slots p') (rw (three_ways met s a b c) over)
         Absent (length met) s records (map (record_of M whole) a ++ map (record_of M whole) b) _ refl h (long_b whole _))
 
 new_slotless : (M : Machine) (slots : ℕ) (build : ℕ → M.State → Memory M → Placement M) (o : Outcome) (at : ℕ) (s t : M.State) (m : Memory M)
-    → M.step o s ≡ t → meets M m.met t ≡ false → (length m.met < slots → build (length m.met) t (stored M t m) ≡ slotless)
-    → place_way M slots build o at s m ≡ slotless
+    → M.step o s ≡ t → meets M m.met t ≡ false → (length m.met < slots → build (length m.met) t (stored M t m) ≡ None)
+    → place_way M slots build o at s m ≡ None
 unfolding and_then
 new_slotless M slots build o at s t m leads e built = go (leb slots (length m.met)) refl
   where
-    go : (b : Bool) → leb slots (length m.met) ≡ b → place_way M slots build o at s m ≡ slotless
+    go : (b : Bool) → leb slots (length m.met) ≡ b → place_way M slots build o at s m ≡ None
     go true h = way_unslotted M slots build o at s t m leads e (leb-true _ _ h)
     go false h = rw (way_new M slots build o at s t m leads e (leb-false _ _ h), built (leb-false _ _ h))
 
@@ -273,12 +273,12 @@ all_some : (M : Machine) (slots f : ℕ) (s : M.State) → 0 < slots
 unfolding place_all stored
 all_some M slots f s h = rw (lt-leb slots 0 h, place_all)
 
-all_none : (M : Machine) (slots f : ℕ) (s : M.State) → slots ≤ 0 → place_all M slots f s ≡ slotless
+all_none : (M : Machine) (slots f : ℕ) (s : M.State) → slots ≤ 0 → place_all M slots f s ≡ None
 unfolding place_all
 all_none M slots f s h = rw (le-leb slots 0 h, place_all)
 
 pub placed_slotted : (M : Machine) (slots : ℕ) {f : ℕ} {news : List M.State} {s : M.State} → Visits M f [] s news → Each (Fit M) news → length news ≤ slots
-    → place_all M slots f s ≡ slotted (holding news (map (record_of M news) news))
+    → place_all M slots f s ≡ Some (holding news (map (record_of M news) news))
 placed_slotted M slots {s} (old e) fits bound = absurd (false≢true (sym (meets_nil M s) ∙ e))
 placed_slotted M slots {f} {s} (final e q) fits bound =
     rw (← record_final M (s ∷ []) s q) (all_some M slots f s (omega arith) ∙ state_final M slots f 0 s _ q)
@@ -288,21 +288,21 @@ placed_slotted M slots {s} (asking {f = f} {a = a} {b = b} {c = c} e q v w z) fi
     ∙ built_slotted M slots f whole [] a b c s [] q refl fits (begins_refl whole) bound (way_slotted M slots whole v) (way_slotted M slots whole w) (way_slotted M slots whole z)
 
 pub placed_slotless : (M : Machine) (slots : ℕ) {f : ℕ} {news : List M.State} {s : M.State} → Visits M f [] s news → Each (Fit M) news → slots < length news
-    → place_all M slots f s ≡ slotless
+    → place_all M slots f s ≡ None
 placed_slotless M slots {s} (old e) fits over = absurd (false≢true (sym (meets_nil M s) ∙ e))
 placed_slotless M slots {f} {s} (final e q) fits over = all_none M slots f s (omega arith)
 placed_slotless M slots {s} (asking {f = f} {a = a} {b = b} {c = c} e q v w z) fits over = go (leb slots 0) refl
   where
-    go : (x : Bool) → leb slots 0 ≡ x → place_all M slots (suc f) s ≡ slotless
+    go : (x : Bool) → leb slots 0 ≡ x → place_all M slots (suc f) s ≡ None
     go true h = all_none M slots (suc f) s (leb-true slots 0 h)
     go false h =
         all_some M slots (suc f) s (leb-false slots 0 h)
         ∙ built_slotless M slots f [] a b c s [] q refl fits (leb-false slots 0 h) over v w (way_slotless M slots v) (way_slotless M slots w) (way_slotless M slots z)
 
 pub placed_visits : (M : Machine) (slots : ℕ) {f : ℕ} {news : List M.State} {s : M.State} → Visits M f [] s news → Each (Fit M) news
-    → place_all M slots f s ≡ cond (leb (length news) slots) (slotted (holding news (map (record_of M news) news))) slotless
+    → place_all M slots f s ≡ cond (leb (length news) slots) (Some (holding news (map (record_of M news) news))) None
 placed_visits M slots {f} {news} {s} v fits = go (leb (length news) slots) refl
   where
-    go : (x : Bool) → leb (length news) slots ≡ x → place_all M slots f s ≡ cond x (slotted (holding news (map (record_of M news) news))) slotless
+    go : (x : Bool) → leb (length news) slots ≡ x → place_all M slots f s ≡ cond x (Some (holding news (map (record_of M news) news))) None
     go true h = placed_slotted M slots v fits (leb-true _ slots h)
     go false h = placed_slotless M slots v fits (leb-false _ slots h)

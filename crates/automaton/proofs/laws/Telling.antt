@@ -5,7 +5,7 @@
 --   told_way, told_state   of the memory after a way, and after all ways of a state
 use Prim.Native.Nat.{ℕ, zero, suc, ◌<◌}
 use Rattle.std.proofs.Common.{arith, ◌∙◌}
-use Rattle.std.specs.Prelude.{◌≡◌, Bool, leb, length, get_or, set}
+use Rattle.std.specs.Prelude.{◌≡◌, Bool, leb, length, get_or, set, None, Some}
 use Rattle.std.proofs.Math.Bool.{true, false}
 use mathlib.Core.List.{List, [], ◌∷◌, ◌++◌}
 use Rattle.residue.specs.declared.Outcome.{Outcome}
@@ -14,7 +14,7 @@ use Rattle.tables.specs.Tables.{next_at}
 use Rattle.tables.specs.inner.Records.{agree}
 use Rattle.tables.proofs.laws.Agreeing.{agree_self, agree_next}
 use Rattle.automaton.specs.Machines.{Machine, meets, place_of}
-use Rattle.automaton.specs.inner.Placing.{Memory, Placement, slotless, slotted, fresh_of, stored, linked, and_then, place_way, place_state, ToldIn, Told}
+use Rattle.automaton.specs.inner.Placing.{Memory, Placement, fresh_of, stored, linked, and_then, place_way, place_state, ToldIn, Told}
 
 module _ (M : Machine) where
   -- ---- lists of states and records
@@ -59,13 +59,13 @@ module _ (M : Machine) where
   told_linked o at next m t = told_next m.met m.records o at next t
 
   abbrev pub ToldBy : Placement M → Type 0
-  ToldBy slotless = Unit {0}
-  ToldBy (slotted m) = Told M m
+  ToldBy None = Unit {0}
+  ToldBy (Some m) = Told M m
 
   told_then : (p : Placement M) (f : Memory M → Placement M) → ToldBy p → ((m : Memory M) → Told M m → ToldBy (f m)) → ToldBy (and_then M p f)
   unfolding and_then
-  told_then slotless f t k = tt
-  told_then (slotted m) f t k = k m t
+  told_then None f t k = tt
+  told_then (Some m) f t k = k m t
 
   pub told_way : (slots : ℕ) (build : ℕ → M.State → Memory M → Placement M) → ((at : ℕ) (s : M.State) (m : Memory M) → Told M m → ToldBy (build at s m))
       → (o : Outcome) (at : ℕ) (s : M.State) (m : Memory M) → Told M m → ToldBy (place_way M slots build o at s m)
@@ -73,17 +73,17 @@ module _ (M : Machine) where
   told_way slots build keeps o at s m t = go (meets M m.met (M.step o s)) (leb slots (length m.met))
     where
       go : (old full : Bool) → ToldBy (elim old [
-        | true ↦ slotted (linked M o at (place_of M m.met (M.step o s)) m)
+        | true ↦ Some (linked M o at (place_of M m.met (M.step o s)) m)
         | false ↦ elim full [
-          | true ↦ slotless
+          | true ↦ None
           | false ↦ and_then M (build (length m.met) (M.step o s) (stored M (M.step o s) m))
-              (λ m'. slotted (linked M o at (length m.met) m'))
+              (λ m'. Some (linked M o at (length m.met) m'))
         ]
       ])
       go true full = told_linked o at (place_of M m.met (M.step o s)) m t
       go false true = tt
       go false false =
-          told_then (build (length m.met) (M.step o s) (stored M (M.step o s) m)) (λ m'. slotted (linked M o at (length m.met) m'))
+          told_then (build (length m.met) (M.step o s) (stored M (M.step o s) m)) (λ m'. Some (linked M o at (length m.met) m'))
           (keeps (length m.met) (M.step o s) (stored M (M.step o s) m) (told_stored (M.step o s) m t))
           (λ m' t'. told_linked o at (length m.met) m' t')
 
@@ -92,7 +92,7 @@ module _ (M : Machine) where
       → (at : ℕ) (s : M.State) (m : Memory M) → Told M m → (asks : Bool)
       → ToldBy (elim asks [
         | true ↦ and_then M (place_way M slots build Holds at s m) (λ m₁. and_then M (place_way M slots build Fails at s m₁) (λ m₂. place_way M slots build Absent at s m₂))
-        | false ↦ slotted m
+        | false ↦ Some m
       ])
   told_ways slots build keeps at s m t true =
       told_then (place_way M slots build Holds at s m) (λ m₁. and_then M (place_way M slots build Fails at s m₁) (λ m₂. place_way M slots build Absent at s m₂))

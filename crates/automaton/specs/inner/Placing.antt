@@ -1,11 +1,11 @@
 -- How the builder places states and records, one after the other, for any machine; no part of document 01.
 --   Memory           the states stored so far and their records, whose next numbers are put in as they become known
 --   holding met records   the two lists as a memory
---   Placement        the memory afterwards, all states in slots, or slotless: a new state found none
+--   Placement        the memory afterwards, all states in slots; none where a new state found no slot
 --   place_state       builds the three ways of the state stored at a place, with n slots in all; f is more than the questions that can follow
 --   place_way         builds one way: its state is met, built if it is new, and its number put into the record
 --   Told M m         each record of the memory has the question and the sets of its state
-use Rattle.std.specs.Prelude.{ℕ, zero, suc, ◌≡◌, true, false, List, [], ◌∷◌, ◌++◌, leb, length, get_or, set}
+use Rattle.std.specs.Prelude.{ℕ, zero, suc, ◌≡◌, true, false, List, [], ◌∷◌, ◌++◌, leb, length, get_or, set, Option, None, Some}
 use Rattle.residue.specs.declared.Outcome.{Outcome}
 use Rattle.residue.specs.declared.Outcome.TheVariants.{Holds, Fails, Absent}
 use Rattle.tables.specs.Tables.{next_at}
@@ -19,9 +19,8 @@ pub record Memory (M : Machine) : Type 0 where
 abbrev pub holding : {M : Machine} → List M.State → List (List ℕ) → Memory M
 holding met records = record { met = met; records = records }
 
-pub data Placement (M : Machine) : Type 0 where
-  slotless : Placement M
-  slotted : Memory M → Placement M
+abbrev pub Placement : Machine → Type 0
+Placement M = Option (Memory M)
 
 -- A record with no next numbers yet.
 unfoldable pub fresh_of : (M : Machine) → M.State → List ℕ
@@ -34,36 +33,36 @@ unfoldable pub linked : (M : Machine) → Outcome → ℕ → ℕ → Memory M �
 linked M o at next m = record { met = m.met; records = set m.records at (set (get_or m.records at []) (next_at o) next) }
 
 unfoldable pub and_then : (M : Machine) → Placement M → (Memory M → Placement M) → Placement M
-and_then M slotless f = slotless
-and_then M (slotted m) f = f m
+and_then M None f = None
+and_then M (Some m) f = f m
 
 -- `build at m` builds the ways of the new state at place `at`; `s` is the state stored at place `at`.
 unfoldable pub place_way : (M : Machine) → ℕ → (ℕ → M.State → Memory M → Placement M) → Outcome → ℕ → M.State → Memory M → Placement M
 place_way M slots build o at s m =
     elim (meets M m.met (M.step o s)) [
-      | true ↦ slotted (linked M o at (place_of M m.met (M.step o s)) m)
+      | true ↦ Some (linked M o at (place_of M m.met (M.step o s)) m)
       | false ↦ elim (leb slots (length m.met)) [
-        | true ↦ slotless
+        | true ↦ None
         | false ↦ and_then M (build (length m.met) (M.step o s) (stored M (M.step o s) m))
-            (λ m'. slotted (linked M o at (length m.met) m'))
+            (λ m'. Some (linked M o at (length m.met) m'))
       ]
     ]
 
 unfoldable pub place_state : (M : Machine) → ℕ → ℕ → ℕ → M.State → Memory M → Placement M
-place_state M slots zero at s m = slotted m
+place_state M slots zero at s m = Some m
 place_state M slots (suc f) at s m =
     elim (M.asks s) [
       | true ↦ and_then M (place_way M slots (place_state M slots f) Holds at s m)
           (λ m₁. and_then M (place_way M slots (place_state M slots f) Fails at s m₁)
           (λ m₂. place_way M slots (place_state M slots f) Absent at s m₂))
-      | false ↦ slotted m
+      | false ↦ Some m
     ]
 
 -- The whole: the start is state 0.
 unfoldable pub place_all : (M : Machine) → ℕ → ℕ → M.State → Placement M
 place_all M slots f s =
     elim (leb slots 0)
-    [ true ↦ slotless | false ↦ place_state M slots f 0 s (stored M s (record { met = []; records = [] })) ]
+    [ true ↦ None | false ↦ place_state M slots f 0 s (stored M s (record { met = []; records = [] })) ]
 
 -- Whatever its next numbers are by now: as many records as states, and each agrees with the fresh record of its state.
 unfoldable pub ToldIn : (M : Machine) → List M.State → List (List ℕ) → Type 0
