@@ -1,2 +1,3 @@
 pub mod Scanning
 pub mod Tops
+pub mod laws

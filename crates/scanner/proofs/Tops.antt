@@ -1,20 +1,15 @@
 -- The filters of a set above which none of the set ranks.
---   top_columns     by the columns, as by the list
+--   top_column      by the column, as by the list
 --   lone_held       where one filter holds at most, those that hold are the match set
 --   top_matches, top_held   of the filters that hold, the match set
-use Prim.Native.Nat.{ℕ, ◌-◌, ◌<◌}
-use mathlib.Core.Path.{◌≡◌, sym, ap, ap₂, ◌∙◌, subst}
-use mathlib.Core.Bool.{Bool, true, false, not, ◌&&◌}
-use mathlib.Core.List.{List}
-use lib.Bits.{bit_and}
-use lib.Dec.{eqb}
-use lib.ListN.{length, get_or}
-use borrow.Author.Tests.{lt-ltb, eqb-true}
+use Rattle.std.specs.Prelude.{ℕ, ◌-◌, ◌<◌, ◌≡◌, Bool, true, false, not, ◌&&◌, List, eqb, length, get_or, Option}
+use Rattle.std.proofs.Common.{sym, ap, ap₂, ◌∙◌, subst, lt-ltb, eqb-true}
+use Rattle.std.specs.Int.Bits.{bit_and}
 use Rattle.residue.specs.laws.Choice.{same_bool, clash}
-use Rattle.residue.specs.declared.Reading.{Reading}
 use Rattle.sets.specs.Sets.{set_of, tally, member, some}
 use Rattle.sets.specs.laws.Lone.{alone}
 use Rattle.sets.specs.laws.Members.{member_tally, get_or_tally, tally_ext, some_ext}
+use Rattle.lists.specs.declared.Rank.{Rank}
 use Rattle.lists.specs.Filters.{Filter}
 use Rattle.lists.specs.Ranks.{above, fires, matches, match_set}
 use Rattle.lists.specs.inner.Columns.{above_by, Heads}
@@ -28,17 +23,17 @@ module _ (fs : List Filter) where
   abbrev top : (ℕ → Bool) → ℕ → Bool
   top p i = p i && not (some (length fs) (λ j. above fs j i && p j))
 
-  pub top_columns : (n : ℕ) (gs ls : List ℕ) (s : ℕ) → Heads fs n gs ls → set_of (tally n (stands_by gs ls n s)) ≡ top_set fs s
+  pub top_column : (n : ℕ) (rs : List Rank) (s : ℕ) → Heads fs n rs → set_of (tally n (stands_by rs n s)) ≡ top_set fs s
   unfolding top_set stands_by beaten_by
-  top_columns n gs ls s h =
+  top_column n rs s h =
       rw (← h.count)
       (ap set_of
-      (tally_ext n (stands_by gs ls n s) (λ i. member i s && not (some n (λ j. above fs j i && member j s)))
+      (tally_ext n (stands_by rs n s) (λ i. member i s && not (some n (λ j. above fs j i && member j s)))
       (λ i l. ap (λ (b : Bool). member i s && not b)
-      (some_ext n (λ j. above_by gs ls j i && member j s) (λ j. above fs j i && member j s)
-      (λ j m. ap (λ (b : Bool). b && member j s) (above_agrees fs n gs ls h j i m l))))))
+      (some_ext n (λ j. above_by rs j i && member j s) (λ j. above fs j i && member j s)
+      (λ j m. ap (λ (b : Bool). b && member j s) (above_agrees fs n rs h j i m l))))))
 
-  module _ (r : ℕ → Reading) where
+  module _ (r : ℕ → Option ℕ) where
     abbrev held : ℕ
     held = set_of (tally (length fs) (fires fs r))
 
@@ -69,12 +64,12 @@ module _ (fs : List Filter) where
         (λ m. T.matches_fires fs r i m)))
 
 -- Both where the set was made of n filters, by readings that are the frame's.
-module _ (fs : List Filter) (q r : ℕ → Reading) (n s : ℕ) (e : length fs ≡ n) (z : q ≡ r) (h : s ≡ set_of (tally n (fires fs q))) where
+module _ (fs : List Filter) (q r : ℕ → Option ℕ) (n s : ℕ) (e : length fs ≡ n) (z : q ≡ r) (h : s ≡ set_of (tally n (fires fs q))) where
   pub top_held : top_set fs s ≡ match_set fs r
   top_held = rw (h, ← e, z) (top_matches fs r)
 
   whole : s ≡ set_of (tally (length fs) (fires fs r))
-  whole = h ∙ ap₂ (λ (k : ℕ) (p : ℕ → Reading). set_of (tally k (fires fs p))) (sym e) z
+  whole = h ∙ ap₂ (λ (k : ℕ) (p : ℕ → Option ℕ). set_of (tally k (fires fs p))) (sym e) z
 
   pub lone_held : eqb (bit_and s (s - 1)) 0 ≡ true → s ≡ match_set fs r
   lone_held b = whole ∙ lone_matches fs r (ap (λ (x : ℕ). bit_and x (x - 1)) (sym whole) ∙ eqb-true (bit_and s (s - 1)) 0 b)

@@ -1,10 +1,6 @@
--- `scanner::fires_set` meets its contract. The invariant: the next filter begins at the place, and the set is the tally of the filters passed.
--- The measure is the number of filters left. Assumes nothing.
-use Prim.Native.Nat.{ℕ, ◌+◌, ◌*◌, ◌^◌, ◌≤◌}
-use mathlib.Core.Path.{◌≡◌, refl, sym, ap, ap₂, ◌∙◌}
-use mathlib.Core.Bool.{Bool}
-use native.Mathlib.Omega.{arith}
-use native.Mathlib.Nat.{le_refl}
+-- The next filter begins at the place, and one more filter is one more bit.
+use Rattle.std.proofs.Common.{ℕ, ◌+◌, ◌*◌, ◌^◌, ◌≤◌, refl, sym, ap₂, ◌∙◌, le_refl, arith}
+use Rattle.std.proofs.Math.Bool.{Bool}
 use Rattle.sets.specs.Sets.{bit, set_of, tally}
 use Rattle.sets.specs.laws.Members.{tally_put, tally_bound}
 use Rattle.fields.specs.Header.{reading_at}
@@ -18,10 +14,10 @@ use Rattle.scanner.proofs.fires_set.Goals.{In-loop-i}
 
 pub loop-i-init : goal.loop-i-init
 unfolding set_of tally
-loop-i-init c = (omega arith, at_start _ _ _ c.requires.1, refl)
+loop-i-init c = (at_start _ _ _ c.requires.1, refl)
 
 begins : (c : In-loop-i) → Here c.args.list.now c.loop-i.at
-begins c = at_here _ _ c.loop-i.i c.loop-i.at c.loop-i.invariant.1 c.loop-i-test.true
+begins c = at_here _ _ c.loop-i.i c.loop-i.at c.loop-i.invariant.0 c.loop-i-test.true
 
 few : (c : In-loop-i) → c.args.n ≤ max_filters
 few c = (accepted_count _ _ _ c.requires.1).2
@@ -42,21 +38,16 @@ pub overflow_cast-i : goal.overflow_cast-i
 overflow_cast-i c = omega (arith, few (goal.at.overflow_cast-i c).In-loop-i)
 
 pub put-set-requires : goal.put-set-requires
-put-set-requires c = (omega (arith, few (goal.at.put-set-requires c).In-loop-i), rw c.loop-i.invariant.2 (tally_bound c.loop-i.i c.loop-i.i _ (le_refl c.loop-i.i)))
+put-set-requires c = (omega (arith, few (goal.at.put-set-requires c).In-loop-i), rw c.loop-i.invariant.1 (tally_bound c.loop-i.i c.loop-i.i _ (le_refl c.loop-i.i)))
 
 pub overflow_add-at-in-loop-i : goal.overflow_add-at-in-loop-i
 overflow_add-at-in-loop-i c = omega (arith, c.filter_words-at.ensures, c.count_at-count.ensures, (begins (goal.at.overflow_add-at-in-loop-i c).In-loop-i).whole)
 
 pub loop-i-preserved : goal.loop-i-preserved
-loop-i-preserved c = let r = reading_at c.args.present c.args.values.now in
+loop-i-preserved c = let r = reading_at c.args.header.now.present c.args.header.now.values in
     let n = (accepted_count _ _ _ c.requires.1).0 in
-    let e = (rw c.count_at-count.ensures at c.all_hold-fires.ensures) ∙ fires_here r c.args.list.now c.args.n c.loop-i.i c.loop-i.at (omega (arith, n)) c.loop-i.invariant.1 c.loop-i-test.true in
+    let e = (rw c.count_at-count.ensures at c.all_hold-fires.ensures) ∙ fires_here r c.args.list.now c.args.n c.loop-i.i c.loop-i.at (omega (arith, n)) c.loop-i.invariant.0 c.loop-i-test.true in
     rw (c.filter_words-at.ensures, c.count_at-count.ensures) (
-      omega arith,
-      at_next c.args.list.now c.args.n c.loop-i.i c.loop-i.at c.loop-i.invariant.1 c.loop-i-test.true,
-      c.put-set.ensures ∙ ap₂ (λ (x : Bool) (s : ℕ). bit x * 2 ^ c.loop-i.i + s) e c.loop-i.invariant.2 ∙ sym (tally_put c.loop-i.i (fires (filters_of c.args.list.now) r)),
+      at_next c.args.list.now c.args.n c.loop-i.i c.loop-i.at c.loop-i.invariant.0 c.loop-i-test.true,
+      c.put-set.ensures ∙ ap₂ (λ (x : Bool) (s : ℕ). bit x * 2 ^ c.loop-i.i + s) e c.loop-i.invariant.1 ∙ sym (tally_put c.loop-i.i (fires (filters_of c.args.list.now) r)),
     )
-
-pub returns : goal.returns
-returns c = let e : c.loop-i.i ≡ c.args.n = omega arith in
-    c.loop-i.invariant.2 ∙ ap (λ (k : ℕ). set_of (tally k (fires (filters_of c.args.list.now) (reading_at c.args.present c.args.values.now)))) e
