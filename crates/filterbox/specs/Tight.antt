@@ -1,10 +1,11 @@
 -- How tight the promises of the C calls are (document 01, the section of that name): two outcomes that one promise allows are equal.
-use Rattle.std.specs.Prelude.{ℕ, ◌≡◌, List}
+use Rattle.std.specs.Prelude.{ℕ, ◌≡◌, List, Result}
 use Rattle.std.proofs.Common.{sym, ◌∙◌}
 use Rattle.slots.specs.Words.{slot_words}
 use Rattle.fields.specs.declared.Seen.{Seen}
-use Rattle.matcher.specs.declared.Answer.{Answer}
-use Rattle.scanner.specs.declared.Scanned.{Scanned}
+use Rattle.refusals.specs.declared.Refusal.{Refusal}
+use Rattle.refusals.specs.declared.Refused.{Refused}
+use Rattle.matcher.specs.declared.Walk.{Walk}
 use Rattle.lamp.specs.declared.Lamp.{Lamp}
 use Rattle.lamp.specs.Lamp.{numbers_of}
 use Rattle.gateway.specs.Gateway as G
@@ -27,15 +28,15 @@ filterbox_build_tight l a b ta tb sa sb x y = (
 )
 
 -- filterbox_classify: the eight numbers; it writes nothing.
-pub filterbox_classify_tight : (w : Answer) (a b : FilterboxAnswer) → a ≡ classified w → b ≡ classified w → a ≡ b
+pub filterbox_classify_tight : (w : Result Walk Refusal) (a b : FilterboxAnswer) → a ≡ classified w → b ≡ classified w → a ≡ b
 filterbox_classify_tight w a b x y = x ∙ sym y
 
 -- filterbox_scan: the four numbers; it writes nothing.
-pub filterbox_scan_tight : (w : Scanned) (a b : FilterboxScanned) → a ≡ matched w → b ≡ matched w → a ≡ b
+pub filterbox_scan_tight : (w : Result ℕ (Refused ℕ)) (a b : FilterboxScanned) → a ≡ matched w → b ≡ matched w → a ≡ b
 filterbox_scan_tight w a b x y = x ∙ sym y
 
 -- filterbox_lamp: the four numbers; it writes nothing.
-pub filterbox_lamp_tight : (w : Lamp) (a b : FilterboxLamp) → a ≡ lamp_with (numbers_of w) → b ≡ lamp_with (numbers_of w) → a ≡ b
+pub filterbox_lamp_tight : (w : Result Lamp (Refused ℕ)) (a b : FilterboxLamp) → a ≡ lamp_with (numbers_of w) → b ≡ lamp_with (numbers_of w) → a ≡ b
 filterbox_lamp_tight w a b x y = x ∙ sym y
 
 -- filterbox_judge: both numbers, and every tally afterwards.

@@ -5,19 +5,17 @@ ghost use Rattle.std.specs.Prelude.{◌≡◌};
 ghost use Rattle.slots.specs.Words.{slot_words};
 ghost use Rattle.builder.specs.Outcome.{outcome};
 ghost use Rattle.matcher.specs.Walk.{walk};
-ghost use Rattle.sets.specs.Sets.{bit};
 ghost use Rattle.fields.specs.Seen.{seen};
 ghost use Rattle.scanner.specs.Scan.{scanned};
 ghost use Rattle.lamp.specs.Lamp.{numbers_of, lamp_of};
 ghost use Rattle.gateway.specs.Gateway.{judged, emptied};
 ghost use Rattle.filterbox.specs.Numbers.{built_with, Compiled, ended_with, classified, matched, field_with, lamp_with, verdict_of, Tallied};
 
-use builder::Built;
 use fields::Seen;
-use gateway::Judged;
 use lamp::Lamp;
-use matcher::{Answer, Found};
-use scanner::Scanned;
+use matcher::{Found, Walk};
+use refusals::{Refusal, Refused};
+use sets::Set;
 
 // The words of a slot, as a C caller gets them.
 const SCRATCH_WORDS: u32 = slots::SLOT_WORDS as u32;
@@ -30,18 +28,21 @@ pub struct FilterboxBuilt {
     pub number: u32,
 }
 
-fn built_of(built: Built) -> FilterboxBuilt
-    ensures { result ≡ built_with built }
-{
-    match built {
-        Built::States(states) => FilterboxBuilt {
-            refusal: 0,
-            number: states,
-        },
-        Built::Refused(number, filter) => FilterboxBuilt {
-            refusal: number,
-            number: filter,
-        },
+impl From<Result<u32, Refused<u32>>> for FilterboxBuilt {
+    ghost from_gives = { λ built numbers. numbers ≡ built_with built };
+
+    #[tactic(auto, unfolding(crate::specs::Numbers::built_with))]
+    fn from(built: Result<u32, Refused<u32>>) -> FilterboxBuilt {
+        match built {
+            Ok(states) => FilterboxBuilt {
+                refusal: 0,
+                number: states,
+            },
+            Err(refused) => FilterboxBuilt {
+                refusal: refused.refusal.number(),
+                number: refused.place,
+            },
+        }
     }
 }
 
@@ -54,7 +55,7 @@ pub extern "C" fn filterbox_build(
 ) -> FilterboxBuilt
     ensures { Compiled (outcome list.now table.old scratch.old) result table.new scratch.new }
 {
-    built_of(builder::build(list, table, scratch))
+    builder::build(list, table, scratch).into()
 }
 
 // The scratch words that building takes for each slot of the table.
@@ -80,16 +81,6 @@ pub struct FilterboxAnswer {
     pub cut: u32,
 }
 
-// A mark as a number.
-fn bit_of(mark: bool) -> u32
-    ensures { result ≡ bit mark }
-{
-    if mark {
-        return 1;
-    }
-    0
-}
-
 fn ended_with(ended: u32, refusal: u32, found: Found) -> FilterboxAnswer
     ensures { result ≡ ended_with ended refusal found }
 {
@@ -101,24 +92,27 @@ fn ended_with(ended: u32, refusal: u32, found: Found) -> FilterboxAnswer
         out_low: sets::low_half(found.out),
         out_high: sets::high_half(found.out),
         asked: found.asked,
-        cut: bit_of(found.cut),
+        cut: u32::from(found.cut),
     }
 }
 
-fn answer_of(answer: Answer) -> FilterboxAnswer
-    ensures { result ≡ classified answer }
-{
-    match answer {
-        Answer::Done(found) => ended_with(1, 0, found),
-        Answer::Stopped(found) => ended_with(2, 0, found),
-        Answer::Refused(number) => {
-            let none = Found {
-                sure: 0,
-                out: 0,
-                asked: 0,
-                cut: false,
-            };
-            ended_with(0, number, none)
+impl From<Result<Walk, Refusal>> for FilterboxAnswer {
+    ghost from_gives = { λ walked numbers. numbers ≡ classified walked };
+
+    #[tactic(auto, unfolding(crate::specs::Numbers::classified))]
+    fn from(walked: Result<Walk, Refusal>) -> FilterboxAnswer {
+        match walked {
+            Ok(Walk::Done(found)) => ended_with(1, 0, found),
+            Ok(Walk::Stopped(found)) => ended_with(2, 0, found),
+            Err(refusal) => {
+                let none = Found {
+                    sure: 0,
+                    out: 0,
+                    asked: 0,
+                    cut: false,
+                };
+                ended_with(0, refusal.number(), none)
+            }
         }
     }
 }
@@ -134,7 +128,7 @@ pub extern "C" fn filterbox_classify(
 ) -> FilterboxAnswer
     ensures { result ≡ classified (walk frame.now port table.now states allowance) }
 {
-    answer_of(matcher::classify(frame, port, table, states, allowance))
+    matcher::classify(frame, port, table, states, allowance).into()
 }
 
 // The refusal's number or 0, the filter's number for refusals 1 to 9, and the match set in two words, which is empty where refused.
@@ -147,22 +141,25 @@ pub struct FilterboxScanned {
     pub set_high: u32,
 }
 
-fn scanned_of(answer: Scanned) -> FilterboxScanned
-    ensures { result ≡ matched answer }
-{
-    match answer {
-        Scanned::Matched(set) => FilterboxScanned {
-            refusal: 0,
-            filter: 0,
-            set_low: sets::low_half(set),
-            set_high: sets::high_half(set),
-        },
-        Scanned::Refused(number, filter) => FilterboxScanned {
-            refusal: number,
-            filter,
-            set_low: 0,
-            set_high: 0,
-        },
+impl From<Result<Set, Refused<u32>>> for FilterboxScanned {
+    ghost from_gives = { λ scanned numbers. numbers ≡ matched scanned };
+
+    #[tactic(auto, unfolding(crate::specs::Numbers::matched))]
+    fn from(scanned: Result<Set, Refused<u32>>) -> FilterboxScanned {
+        match scanned {
+            Ok(set) => FilterboxScanned {
+                refusal: 0,
+                filter: 0,
+                set_low: sets::low_half(set),
+                set_high: sets::high_half(set),
+            },
+            Err(refused) => FilterboxScanned {
+                refusal: refused.refusal.number(),
+                filter: refused.place,
+                set_low: 0,
+                set_high: 0,
+            },
+        }
     }
 }
 
@@ -171,7 +168,7 @@ fn scanned_of(answer: Scanned) -> FilterboxScanned
 pub extern "C" fn filterbox_scan(list: &[u32], frame: &[u8], port: u8) -> FilterboxScanned
     ensures { result ≡ matched (scanned list.now frame.now port) }
 {
-    scanned_of(scanner::scan(list, frame, port))
+    scanner::scan(list, frame, port).into()
 }
 
 // The refusal's number or 0, the filter's number for refusals 1 to 9, 1 where the lamp is lit, and the questions asked. A refusal has zeros for the last two.
@@ -184,28 +181,30 @@ pub struct FilterboxLamp {
     pub asked: u32,
 }
 
-fn lamp_of(lamp: Lamp) -> FilterboxLamp
-    ensures { result ≡ lamp_with (numbers_of lamp) }
-{
-    match lamp {
-        Lamp::Lit(asked) => FilterboxLamp {
-            refusal: 0,
-            filter: 0,
-            lit: 1,
-            asked,
-        },
-        Lamp::Dark(asked) => FilterboxLamp {
-            refusal: 0,
-            filter: 0,
-            lit: 0,
-            asked,
-        },
-        Lamp::Refused(number, filter) => FilterboxLamp {
-            refusal: number,
-            filter,
-            lit: 0,
-            asked: 0,
-        },
+impl From<Result<Lamp, Refused<u32>>> for FilterboxLamp {
+    ghost from_gives = { λ shown numbers. numbers ≡ lamp_with (numbers_of shown) };
+
+    fn from(shown: Result<Lamp, Refused<u32>>) -> FilterboxLamp {
+        match shown {
+            Ok(Lamp::Lit(asked)) => FilterboxLamp {
+                refusal: 0,
+                filter: 0,
+                lit: 1,
+                asked,
+            },
+            Ok(Lamp::Dark(asked)) => FilterboxLamp {
+                refusal: 0,
+                filter: 0,
+                lit: 0,
+                asked,
+            },
+            Err(refused) => FilterboxLamp {
+                refusal: refused.refusal.number(),
+                filter: refused.place,
+                lit: 0,
+                asked: 0,
+            },
+        }
     }
 }
 
@@ -220,7 +219,7 @@ pub extern "C" fn filterbox_lamp(
 ) -> FilterboxLamp
     ensures { result ≡ lamp_with (numbers_of (lamp_of list.now frame.now port table.now states)) }
 {
-    lamp_of(lamp::light(list, frame, port, table, states))
+    lamp::light(list, frame, port, table, states).into()
 }
 
 // The refusal's number, 0 where the frame was judged; and the verdict, 0 where refused.
@@ -231,18 +230,21 @@ pub struct FilterboxJudged {
     pub verdict: u32,
 }
 
-fn judged_of(answer: Judged) -> FilterboxJudged
-    ensures { result ≡ verdict_of answer }
-{
-    match answer {
-        Judged::Verdict(verdict) => FilterboxJudged {
-            refusal: 0,
-            verdict,
-        },
-        Judged::Refused(number) => FilterboxJudged {
-            refusal: number,
-            verdict: 0,
-        },
+impl From<Result<u32, Refusal>> for FilterboxJudged {
+    ghost from_gives = { λ judged numbers. numbers ≡ verdict_of judged };
+
+    #[tactic(auto, unfolding(crate::specs::Numbers::verdict_of))]
+    fn from(judged: Result<u32, Refusal>) -> FilterboxJudged {
+        match judged {
+            Ok(verdict) => FilterboxJudged {
+                refusal: 0,
+                verdict,
+            },
+            Err(refusal) => FilterboxJudged {
+                refusal: refusal.number(),
+                verdict: 0,
+            },
+        }
     }
 }
 
@@ -260,7 +262,7 @@ pub extern "C" fn filterbox_judge(
 ) -> FilterboxJudged
     ensures { Tallied (judged frame.now port table.now states verdicts.now standing tallies.old) result tallies.new }
 {
-    judged_of(gateway::judge(frame, port, table, states, verdicts, standing, tallies))
+    gateway::judge(frame, port, table, states, verdicts, standing, tallies).into()
 }
 
 // Makes every tally 0.
@@ -279,13 +281,16 @@ pub struct FilterboxField {
     pub value: u32,
 }
 
-fn field_of(seen: Seen) -> FilterboxField
-    ensures { result ≡ field_with seen }
-{
-    match seen {
-        Seen::Has(x) => FilterboxField { kind: 1, value: x },
-        Seen::None => FilterboxField { kind: 0, value: 0 },
-        Seen::Cut => FilterboxField { kind: 2, value: 0 },
+impl From<Seen> for FilterboxField {
+    ghost from_gives = { λ seen numbers. numbers ≡ field_with seen };
+
+    #[tactic(auto, unfolding(crate::specs::Numbers::field_with))]
+    fn from(seen: Seen) -> FilterboxField {
+        match seen {
+            Seen::Has(x) => FilterboxField { kind: 1, value: x },
+            Seen::None => FilterboxField { kind: 0, value: 0 },
+            Seen::Cut => FilterboxField { kind: 2, value: 0 },
+        }
     }
 }
 
@@ -294,5 +299,5 @@ fn field_of(seen: Seen) -> FilterboxField
 pub extern "C" fn filterbox_field(frame: &[u8], port: u8, number: u32) -> FilterboxField
     ensures { result ≡ field_with (seen frame.now port number) }
 {
-    field_of(fields::read_field(frame, port, number))
+    fields::read_field(frame, port, number).into()
 }
