@@ -6,15 +6,15 @@
 --   answers a w        the case that this frame, walked through the records of the echo list with the allowance a, is answered by w
 --   marked_cases more   the twelve cases, each whether a definition gives what the document says; the last has the allowance 2 + more
 --   all_right cs        every case of a list is right
-use Rattle.std.specs.Prelude.{ℕ, zero, suc, ◌+◌, ◌≡◌, refl, Bool, true, false, ◌&&◌, List, [], ◌∷◌, eqb}
+use Rattle.std.specs.Prelude.{ℕ, zero, suc, ◌+◌, ◌≡◌, refl, Bool, true, false, ◌&&◌, List, [], ◌∷◌, eqb, Option, Some, Result, Ok, Err}
 use Rattle.std.proofs.Common.{arith}
+use Rattle.refusals.specs.Numbers.{number_of}
+use Rattle.refusals.specs.declared.Refusal.{Refusal}
 use Rattle.residue.specs.Tests as T
 use Rattle.residue.specs.Residues as D
 use Rattle.residue.specs.inner.Relations as E
 use Rattle.residue.specs.declared.Test.{Test}
 use Rattle.residue.specs.declared.Test.TheVariants.{Equal, Differs, AtLeast}
-use Rattle.residue.specs.declared.Fact.{Fact}
-use Rattle.residue.specs.declared.Fact.TheVariants.{Known}
 use Rattle.residue.specs.declared.Residue.{Residue}
 use Rattle.residue.specs.declared.Residue.TheVariants.{True, False, Left}
 use Rattle.fields.specs.Bytes as Y
@@ -31,8 +31,8 @@ use Rattle.tables.specs.Tables as B
 use Rattle.machine.specs.Box.{records_in}
 use Rattle.machine.specs.Cases.{echo_in, echo, echo_table, echo_records}
 use Rattle.matcher.specs.declared.Found.{Found}
-use Rattle.matcher.specs.declared.Answer.{Answer}
-use Rattle.matcher.specs.declared.Answer.TheVariants.{Done, Stopped, Refused}
+use Rattle.matcher.specs.declared.Walk.{Walk}
+use Rattle.matcher.specs.declared.Walk.TheVariants.{Done, Stopped}
 use Rattle.matcher.specs.Walk as W
 
 unfoldable pub same_residue : Residue → Residue → Bool
@@ -46,22 +46,23 @@ same_residue (Left t) True = false
 same_residue (Left t) False = false
 same_residue (Left t) (Left u) = E.same_test t u
 
-unfoldable pub gives : ℕ → Fact → Test → Residue → Bool
+unfoldable pub gives : ℕ → Option Test → Test → Residue → Bool
 gives full k t d = same_residue (D.residue_by full k t) d
 
 unfoldable pub same_found : Found → Found → Bool
 same_found x y = eqb x.sure y.sure && eqb x.out y.out && eqb x.asked y.asked && eqb (S.bit x.cut) (S.bit y.cut)
 
-unfoldable pub same_answer : Answer → Answer → Bool
-same_answer (Done x) (Done y) = same_found x y
-same_answer (Done x) (Stopped y) = false
-same_answer (Done x) (Refused m) = false
-same_answer (Stopped x) (Done y) = false
-same_answer (Stopped x) (Stopped y) = same_found x y
-same_answer (Stopped x) (Refused m) = false
-same_answer (Refused n) (Done y) = false
-same_answer (Refused n) (Stopped y) = false
-same_answer (Refused n) (Refused m) = eqb n m
+unfoldable pub same_walk : Walk → Walk → Bool
+same_walk (Done x) (Done y) = same_found x y
+same_walk (Done x) (Stopped y) = false
+same_walk (Stopped x) (Done y) = false
+same_walk (Stopped x) (Stopped y) = same_found x y
+
+unfoldable pub same_answer : Result Walk Refusal → Result Walk Refusal → Bool
+same_answer (Ok x) (Ok y) = same_walk x y
+same_answer (Ok x) (Err r) = false
+same_answer (Err r) (Ok y) = false
+same_answer (Err r) (Err q) = eqb (number_of r) (number_of q)
 
 unfoldable pub echo_frame : List ℕ
 echo_frame =
@@ -69,23 +70,23 @@ echo_frame =
     0x45 ∷ 0 ∷ 0 ∷ 28 ∷ 0 ∷ 0 ∷ 0 ∷ 0 ∷ 1 ∷ 1 ∷ 0 ∷ 0 ∷ 10 ∷ 0 ∷ 0 ∷ 1 ∷ 10 ∷ 0 ∷ 0 ∷ 2 ∷
     8 ∷ 0 ∷ 0 ∷ 0 ∷ 0 ∷ 1 ∷ 0 ∷ 1 ∷ []
 
-unfoldable pub answers : ℕ → Answer → Bool
+unfoldable pub answers : ℕ → Result Walk Refusal → Bool
 answers a w = same_answer (W.walk echo_frame 0 (records_in (L.filters_of echo)) 10 a) w
 
 unfoldable pub marked_cases : ℕ → List Bool
 marked_cases more =
-    gives 255 (Known (Differs 3 1)) (Equal 255 5) False
-    ∷ gives 255 (Known (Differs 3 0)) (Equal 255 5) (Left (Equal 255 5))
-    ∷ gives 255 (Known (Equal 0xF0 0x70)) (Equal 255 0x75) (Left (Equal 0x0F 5))
-    ∷ gives 255 (Known (Equal 0xF0 0x70)) (Differs 255 5) True
-    ∷ gives 255 (Known (Equal 0xF0 0x70)) (AtLeast 112) True
-    ∷ gives 255 (Known (Equal 0xF0 0x70)) (AtLeast 113) (Left (AtLeast 113))
-    ∷ gives 255 (Known (Equal 0xF0 0x70)) (AtLeast 128) False
-    ∷ gives 255 (Known (AtLeast 31)) (Equal 0xF0 0x10) (Left (Equal 0xF0 0x10))
-    ∷ gives 255 (Known (AtLeast 32)) (Equal 0xF0 0x10) False
-    ∷ answers 0 (Stopped (record { sure = 0; out = 0; asked = 0; cut = false }))
-    ∷ answers 1 (Stopped (record { sure = 1; out = 2; asked = 1; cut = false }))
-    ∷ answers (2 + more) (Done (record { sure = 5; out = 2; asked = 2; cut = false }))
+    gives 255 (Some (Differs 3 1)) (Equal 255 5) False
+    ∷ gives 255 (Some (Differs 3 0)) (Equal 255 5) (Left (Equal 255 5))
+    ∷ gives 255 (Some (Equal 0xF0 0x70)) (Equal 255 0x75) (Left (Equal 0x0F 5))
+    ∷ gives 255 (Some (Equal 0xF0 0x70)) (Differs 255 5) True
+    ∷ gives 255 (Some (Equal 0xF0 0x70)) (AtLeast 112) True
+    ∷ gives 255 (Some (Equal 0xF0 0x70)) (AtLeast 113) (Left (AtLeast 113))
+    ∷ gives 255 (Some (Equal 0xF0 0x70)) (AtLeast 128) False
+    ∷ gives 255 (Some (AtLeast 31)) (Equal 0xF0 0x10) (Left (Equal 0xF0 0x10))
+    ∷ gives 255 (Some (AtLeast 32)) (Equal 0xF0 0x10) False
+    ∷ answers 0 (Ok (Stopped (record { sure = 0; out = 0; asked = 0; cut = false })))
+    ∷ answers 1 (Ok (Stopped (record { sure = 1; out = 2; asked = 1; cut = false })))
+    ∷ answers (2 + more) (Ok (Done (record { sure = 5; out = 2; asked = 2; cut = false })))
     ∷ []
 
 unfoldable pub all_right : List Bool → Bool
@@ -96,7 +97,7 @@ pub marked_cases_lem : (more : ℕ) → all_right (marked_cases more) ≡ true
 unfolding
     all_right marked_cases gives same_residue E.same_test E.equal_of E.differs_of E.at_most_of E.at_least_of
     D.residue_by D.from_equal D.from_masked D.reduced_equal D.reduced_differs D.from_differs D.from_at_most D.from_at_least D.covers D.outside D.settled
-    answers same_answer same_found echo_frame echo_table W.walk W.walk_from W.found_at W.arrive W.onward W.damaged W.next_of W.next_by W.cut_of B.slots_of B.word_of B.sure_set_at B.out_set_at B.set_at L.test_of T.holds
+    answers same_answer same_walk same_found echo_frame echo_table W.walk W.walk_from W.found_at W.arrive W.onward W.damaged W.next_of W.next_by W.cut_of B.slots_of B.word_of B.sure_set_at B.out_set_at B.set_at L.test_of T.holds
     C.seen C.seen_of C.is_cut C.reading_of C.possible C.chances C.may_be_type C.may_be_internet C.may_begin C.may_carry C.could
     F.field F.readings F.puts P.put_all Y.two Y.four N.ethernet I.internet I.internet_puts I.version I.header_length I.total_length I.protocol I.transport I.transport_start
     I.transport_end X.transport_puts

@@ -7,7 +7,8 @@
 --   vs d ts   a gateway's verdict table, its standing verdict and its tallies
 --   j         the frame judged over what was built
 --   shown_at   what document 01 shows of a state that a walk ends in: done or stopped, its sure set, its out set, the questions asked; and document 02's mark
-use Rattle.std.specs.Prelude.{ℕ, ◌≤◌, ◌<◌, ◌≡◌, ◌⊎◌, true, false, not, ◌&&◌, List, eqb, length}
+use Rattle.std.specs.Prelude.{ℕ, ◌≤◌, ◌<◌, ◌≡◌, ◌⊎◌, true, false, not, ◌&&◌, List, eqb, length, Result, Ok, Err}
+use Rattle.refusals.specs.declared.Refusal.{Refusal}
 use Rattle.residue.specs.declared.Outcome.{Outcome}
 use Rattle.fields.specs.Bytes.{Bytes}
 use Rattle.fields.specs.Fields.{field}
@@ -20,9 +21,8 @@ use Rattle.fields.proofs.laws.Values.{value_in_width}
 use Rattle.sets.specs.Sets.{bit, member}
 use Rattle.lists.specs.Filters.{max_filters, Item, Filter, filters_of, tests_in}
 use Rattle.lists.specs.Ranks.{matches, match_set}
-use Rattle.lists.specs.Refusals.{listed}
+use Rattle.lists.specs.Refusals.{counts, listed}
 use Rattle.lists.specs.laws.Accepted.{accepted_well}
-use Rattle.lists.specs.declared.Listed.TheVariants.{Accepted}
 use Rattle.states.specs.States.{State, start, ask, question_of, step, is_open}
 use Rattle.states.specs.Runs.{run, asked_in, follow}
 use Rattle.states.specs.Runs.{asks_all}
@@ -33,12 +33,10 @@ use Rattle.tables.specs.Tables.{slots_of}
 use Rattle.machine.specs.Box.{box_of, states_of}
 use Rattle.machine.proofs.laws.Lawful.{states_distinct, states_reached, reached_states}
 use Rattle.states.proofs.laws.Well.{well_start, well_follow}
-use Rattle.matcher.specs.declared.Answer.{Answer}
-use Rattle.matcher.specs.declared.Answer.TheVariants.{Refused}
+use Rattle.matcher.specs.declared.Walk.{Walk}
 use Rattle.matcher.proofs.laws.Marks.{mark_lasts}
 use Rattle.matcher.specs.Walk.{found, is_done, damaged, walk}
 use Rattle.scanner.specs.Scan.{scanned}
-use Rattle.scanner.specs.declared.Scanned.TheVariants.{Matched}
 use Rattle.lamp.specs.Lamp.{Numbers, numbers_of, is_as_is, lamp_ends, lamp_of}
 use Rattle.lamp.proofs.laws.Truths.{lamp_shows, shows_lit, shows_asked}
 use Rattle.gateway.specs.Gateway.{tally_count, verdicts_fit, Judgement, counted_at, judged}
@@ -46,7 +44,6 @@ use Rattle.gateway.specs.Events.{Event, sum_of, opened, book_over}
 use Rattle.gateway.proofs.laws.Events.{runs_add_up}
 use Rattle.captures.specs.Replay.{most_count, last_four, replayed, text_replayed}
 use Rattle.captures.specs.Parts.{played, joined}
-use Rattle.captures.specs.declared.Replayed.TheVariants.{Counted}
 use Rattle.captures.specs.laws.Tallies.{adds_up}
 use Rattle.captures.specs.laws.Whole.{played_whole}
 use Rattle.builder.specs.Outcome.{refusal_of, number_of, Left, scratch_words, outcome}
@@ -67,7 +64,7 @@ module _ (l t s : List ℕ) where
 
   -- A list that is built, and a frame that is not refused.
   module _ (built : refusal_of b.answer ≡ 0) (f : List ℕ) (p : ℕ) (legal : Legal f p) where
-    abbrev w : ℕ → Answer
+    abbrev w : ℕ → Result Walk Refusal
     w a = walk f p b.table (number_of b.answer) a
 
     -- Demand 2: with an allowance of the list's tests the walk is done, and a filter is sure exactly where it is in the match set.
@@ -75,7 +72,7 @@ module _ (l t s : List ℕ) where
     demand_2 a enough = (all_done l t s built f p legal a enough, all_matches l t s built f p legal a enough)
 
     -- Change request P1: then the scanner, which has no table, names the same set.
-    pub scanner_agrees : (a : ℕ) → tests_in fs ≤ a → scanned l f p ≡ Matched (found (w a)).sure
+    pub scanner_agrees : (a : ℕ) → tests_in fs ≤ a → scanned l f p ≡ Ok (found (w a)).sure
     scanner_agrees = all_scanned l t s built f p legal
 
     -- Change request P4: the lamp is not refused over what was built.
@@ -123,7 +120,7 @@ module _ (l t s : List ℕ) where
     demand_3_asked = asked_few l t s built f p legal
 
   -- An accepted list.
-  module _ (n k : ℕ) (accepted : listed l ≡ Accepted n k) where
+  module _ (n k : ℕ) (accepted : listed l ≡ Ok (counts n k)) where
     -- Demand 2, last sentence: with scratch enough for the slots it is refused for want of room exactly where it has more states than the table has slots; else it is built.
     pub demand_2_room : scratch_words t ≤ length s → (refusal_of b.answer ≡ 11 → slots_of t < length (states_of fs)) × (slots_of t < length (states_of fs) → refusal_of b.answer ≡ 11)
     demand_2_room = build_full l t s n k accepted
@@ -172,7 +169,7 @@ field_seen f p n known = seen_as f p known n
 
 -- Over any table a greater allowance that is not refused may set the mark and never clears it.
 pub mark_kept :
-    (f : List ℕ) (p : ℕ) (t : List ℕ) (m a a' : ℕ) → a ≤ a' → ((n : ℕ) → walk f p t m a' ≡ Refused n → ⊥) →
+    (f : List ℕ) (p : ℕ) (t : List ℕ) (m a a' : ℕ) → a ≤ a' → ((r : Refusal) → walk f p t m a' ≡ Err r → ⊥) →
     (found (walk f p t m a)).cut ≡ true → (found (walk f p t m a')).cut ≡ true
 mark_kept = mark_lasts
 
@@ -200,5 +197,5 @@ replay_parts = played_whole
 
 -- The last four tallies add up to the records read. (A count that has come to 2 ^ 64 - 1 stays there.)
 pub replay_adds_up :
-    (fs : List Filter) (s : List ℕ) (k : ℕ) → (replayed fs s).answer ≡ Counted k → k < most_count → last_four (length fs) (replayed fs s).counts ≡ k
+    (fs : List Filter) (s : List ℕ) (k : ℕ) → (replayed fs s).answer ≡ Ok k → k < most_count → last_four (length fs) (replayed fs s).counts ≡ k
 replay_adds_up = adds_up

@@ -2,18 +2,16 @@
 -- The old ranking, and what is worked out under any ranking, stand in specs/inner/OldRanks.antt.
 --   l fs     a list's words and its filters
 --   l' fs'   the words with group 1 for each filter, and their filters
-use Rattle.std.specs.Prelude.{ℕ, ◌<◌, ◌≡◌, refl, true, false, List, length}
+use Rattle.std.specs.Prelude.{ℕ, ◌<◌, ◌≡◌, refl, true, false, List, length, Option, Ok}
 use Rattle.std.proofs.Common.{arith, sym, ap, ◌∙◌, subst}
-use Rattle.residue.specs.declared.Reading.{Reading}
 use Rattle.lists.specs.Filters.{Filter, filters_of}
-use Rattle.lists.specs.Refusals.{listed}
+use Rattle.lists.specs.Refusals.{counts, listed}
 use Rattle.lists.specs.Ranks.{group_of, above, fires, matches, match_set}
 use Rattle.lists.specs.inner.Moved.{all_in, moved, moved_words}
 use Rattle.lists.specs.laws.Accepted.{accepted_well}
 use Rattle.lists.specs.laws.Moved as M
 use Rattle.lists.specs.laws.Ranking as R
 use Rattle.lists.specs.laws.Topmost as T
-use Rattle.lists.specs.declared.Listed.TheVariants.{Accepted}
 use Rattle.machine.specs.Box.{states_of, records_in}
 use Rattle.matcher.specs.Walk.{walk}
 use Rattle.builder.specs.Outcome.{number_of, Left, outcome}
@@ -31,13 +29,13 @@ module _ (fs : List Filter) (i : ℕ) (alone : group_of fs i ≡ 0) where
   pub alone_below : (j : ℕ) → above fs j i ≡ false
   alone_below j = R.alone_below fs j i alone
 
-  pub alone_matches : (r : ℕ → Reading) → matches fs r i ≡ fires fs r i
+  pub alone_matches : (r : ℕ → Option ℕ) → matches fs r i ≡ fires fs r i
   alone_matches r = T.alone_matches fs r i alone
 
 -- ---- lists that move
 
 -- Under the present ranking what is worked out under a ranking is the present definition.
-pub present_matches : (fs : List Filter) (r : ℕ → Reading) → match_set_under above fs r ≡ match_set fs r
+pub present_matches : (fs : List Filter) (r : ℕ → Option ℕ) → match_set_under above fs r ≡ match_set fs r
 present_matches fs = match_set_alike above fs fs (present_alike fs)
 
 pub present_outcome : (l t s : List ℕ) → outcome_under above l t s ≡ outcome l t s
@@ -69,11 +67,11 @@ module _ (l : List ℕ) (alone : all_in 0 (filters_of l) ≡ true) where
   moved_ranks = alike.ranked
 
   -- The same match set, whatever the fields read.
-  pub moved_matches : (r : ℕ → Reading) → match_set_under old_above fs r ≡ match_set fs' r
+  pub moved_matches : (r : ℕ → Option ℕ) → match_set_under old_above fs r ≡ match_set fs' r
   moved_matches = match_set_alike old_above fs fs' alike
 
   -- The same states and the same records.
-  module _ (n k : ℕ) (accepted : listed l ≡ Accepted n k) where
+  module _ (n k : ℕ) (accepted : listed l ≡ Ok (counts n k)) where
     pub moved_states : states_under old_above fs ≡ states_of fs'
     moved_states = states_alike old_above fs fs' alike (accepted_well l' n k (moved_listed ∙ accepted))
 

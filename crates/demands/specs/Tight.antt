@@ -1,13 +1,13 @@
 -- How tight the promises are (document 01, the section of that name): two outcomes that one promise allows are equal.
-use Rattle.std.specs.Prelude.{ℕ, zero, suc, ◌<◌, ◌≡◌, refl, List}
-use Rattle.std.proofs.Common.{arith, sym, ap, ◌∙◌}
+use Rattle.std.specs.Prelude.{ℕ, ◌≡◌, refl, List, Result, Ok, Err}
+use Rattle.std.proofs.Common.{sym, ap, ◌∙◌}
+use Rattle.refusals.specs.declared.Refusal.{Refusal}
+use Rattle.refusals.specs.declared.Refused.{Refused}
 use Rattle.fields.specs.Header.{Header}
-use Rattle.builder.specs.declared.Built.{Built}
 use Rattle.builder.specs.Outcome as O
 use Rattle.builder.specs.Tight.{answered_one}
-use Rattle.matcher.specs.declared.Answer.{Answer}
+use Rattle.matcher.specs.declared.Walk.{Walk}
 use Rattle.matcher.specs.Walk as W
-use Rattle.gateway.specs.declared.Judged.{Judged}
 use Rattle.gateway.specs.Gateway as G
 use Rattle.captures.specs.declared.Pause.{Pause}
 use Rattle.captures.specs.Parts as P
@@ -19,7 +19,7 @@ equation_tight d x y u v = u ∙ sym v
 
 -- The answer, and each word of the lent memory afterwards.
 pub build_tight :
-    (l t s : List ℕ) (a b : Built) (ta tb sa sb : List ℕ) → O.Answered (O.outcome l t s) a ta sa → O.Answered (O.outcome l t s) b tb sb →
+    (l t s : List ℕ) (a b : Result ℕ (Refused ℕ)) (ta tb sa sb : List ℕ) → O.Answered (O.outcome l t s) a ta sa → O.Answered (O.outcome l t s) b tb sb →
     (a ≡ b) × (ta ≡ tb) × (sa ≡ sb)
 build_tight l t s = answered_one (O.outcome l t s)
 
@@ -28,11 +28,11 @@ pub header_tight : (f : List ℕ) (p : ℕ) (old vs ws : List ℕ) (x y : ℕ) �
 header_tight f p old vs ws x y u v = (u.set ∙ sym v.set, u.words ∙ sym v.words)
 
 -- Classifying writes nothing, and its answer is determined.
-pub classify_tight : (f : List ℕ) (p : ℕ) (t : List ℕ) (m a : ℕ) (x y : Answer) → x ≡ W.walk f p t m a → y ≡ W.walk f p t m a → x ≡ y
+pub classify_tight : (f : List ℕ) (p : ℕ) (t : List ℕ) (m a : ℕ) (x y : Result Walk Refusal) → x ≡ W.walk f p t m a → y ≡ W.walk f p t m a → x ≡ y
 classify_tight f p t m a x y u v = u ∙ sym v
 
 -- Judging: the answer, and every tally afterwards.
-pub judge_tight : (j : G.Judgement) (a b : Judged) (ta tb : List ℕ) → G.judgement_of a ta ≡ j → G.judgement_of b tb ≡ j → (a ≡ b) × (ta ≡ tb)
+pub judge_tight : (j : G.Judgement) (a b : Result ℕ Refusal) (ta tb : List ℕ) → G.judgement_of a ta ≡ j → G.judgement_of b tb ≡ j → (a ≡ b) × (ta ≡ tb)
 judge_tight j a b ta tb x y = (ap (λ (k : G.Judgement). k.answer) (x ∙ sym y), ap (λ (k : G.Judgement). k.tallies) (x ∙ sym y))
 
 -- Going on with a capture: where it stands, what waits, each byte of the buffer and every tally afterwards.
@@ -44,11 +44,11 @@ go_on_tight p before a b sa sb ta tb x y =
 
 -- Building and classifying as one.
 pub build_and_classify_tight :
-    (l t s f : List ℕ) (p a : ℕ) (x y : Answer) (tx ty sx sy : List ℕ) → Whole l t s f p a x → Rooms (O.outcome l t s) tx sx → Whole l t s f p a y →
+    (l t s f : List ℕ) (p a : ℕ) (x y : Result Walk Refusal) (tx ty sx sy : List ℕ) → Whole l t s f p a x → Rooms (O.outcome l t s) tx sx → Whole l t s f p a y →
     Rooms (O.outcome l t s) ty sy → (x ≡ y) × (tx ≡ ty) × (sx ≡ sy)
 build_and_classify_tight l t s f p a x y tx ty sx sy wx rx wy ry =
-    (same (O.refusal_of (O.outcome l t s).answer) refl, rx.table ∙ sym ry.table, rx.scratch ∙ sym ry.scratch)
+    (same (O.outcome l t s).answer refl, rx.table ∙ sym ry.table, rx.scratch ∙ sym ry.scratch)
   where
-    same : (n : ℕ) → O.refusal_of (O.outcome l t s).answer ≡ n → x ≡ y
-    same zero e = wx.walks e ∙ sym (wy.walks e)
-    same (suc n) e = let some : 0 < O.refusal_of (O.outcome l t s).answer = omega arith in wx.unbuilt some ∙ sym (wy.unbuilt some)
+    same : (b : Result ℕ (Refused ℕ)) → (O.outcome l t s).answer ≡ b → x ≡ y
+    same (Ok n) e = let built = ap O.refusal_of e in wx.walks built ∙ sym (wy.walks built)
+    same (Err r) e = wx.unbuilt r e ∙ sym (wy.unbuilt r e)

@@ -4,10 +4,10 @@
 ghost use Rattle.builder.specs.Outcome.{outcome};
 ghost use Rattle.demands.specs.Whole.{Whole, Rooms};
 
-use builder::Built;
-use matcher::Answer;
+use matcher::Walk;
+use refusals::Refusal;
 
-// Builds the list and walks the frame through what was built. A refusal of either call is answered with its number.
+// Builds the list and walks the frame through what was built. A refusal of either call is the answer; the filter that has a list's fault is not told.
 pub fn build_and_classify(
     list: &[u32],
     table: &mut [u32],
@@ -15,12 +15,12 @@ pub fn build_and_classify(
     frame: &[u8],
     port: u8,
     allowance: u32,
-) -> Answer
+) -> Result<Walk, Refusal>
     ensures whole { Whole list.now table.old scratch.old frame.now port allowance result }
     ensures rooms { Rooms (outcome list.now table.old scratch.old) table.new scratch.new }
 {
     match builder::build(list, table, scratch) {
-        Built::States(states) => matcher::classify(frame, port, table, states, allowance),
-        Built::Refused(number, filter) => Answer::Refused(number),
+        Ok(states) => matcher::classify(frame, port, table, states, allowance),
+        Err(refused) => Err(refused.refusal),
     }
 }

@@ -5,10 +5,10 @@ use mathlib.Core.Path.{sym, ◌∙◌}
 use Rattle.demands.specs.laws.Whole.{whole_built, whole_refused}
 use Rattle.demands.proofs.build_and_classify.Goals as goal
 
-pub returns-in-States : goal.returns-in-States
-returns-in-States c = record {
-  whole = whole_built _ _ _ _ _ _ c.in-States.states _ c.classify.result
-      (sym c.in-States.is ∙ c.build.ensures.answer)
+pub returns-in-Ok : goal.returns-in-Ok
+returns-in-Ok c = record {
+  whole = whole_built _ _ _ _ _ _ c.in-Ok.states _ c.classify.result
+      (sym c.in-Ok.is ∙ c.build.ensures.answer)
       c.build.ensures.table
       c.classify.ensures
       c.type_inv.frame
@@ -16,8 +16,8 @@ returns-in-States c = record {
   rooms = record { table = c.build.ensures.table; scratch = c.build.ensures.scratch };
 }
 
-pub returns-in-Refused : goal.returns-in-Refused
-returns-in-Refused c = record {
-  whole = whole_refused _ _ _ _ _ _ c.in-Refused.number c.in-Refused.filter (sym c.in-Refused.is ∙ c.build.ensures.answer);
+pub returns-in-Err : goal.returns-in-Err
+returns-in-Err c = record {
+  whole = whole_refused _ _ _ _ _ _ c.in-Err.refused (sym c.in-Err.is ∙ c.build.ensures.answer);
   rooms = record { table = c.build.ensures.table; scratch = c.build.ensures.scratch };
 }

@@ -1,17 +1,15 @@
 -- The ranking before document 02, P6, and what the definitions say under any ranking: each is the line of the same name with `ranks` for `above`.
 --   old_above fs i j       filter i ranked above filter j: in one group, group 0 too
 --   matches_under .. outcome_under   the match set; states, their steps and sets; a list's machine, states and records; what building answers and leaves
-use Rattle.std.specs.Prelude.{ℕ, ◌+◌, Bool, cond, not, ◌&&◌, ◌||◌, List, [], ◌∷◌, ◌++◌, map, ltb, eqb, length, drop}
+use Rattle.std.specs.Prelude.{ℕ, ◌+◌, Bool, cond, not, ◌&&◌, ◌||◌, List, [], ◌∷◌, ◌++◌, map, ltb, eqb, length, drop, Option, Ok, Err}
+use Rattle.refusals.specs.declared.Refusal.TheVariants.{ScratchRoom}
 use Rattle.residue.specs.Facts.{fact_of}
-use Rattle.residue.specs.declared.Reading.{Reading}
 use Rattle.residue.specs.declared.Outcome.{Outcome}
 use Rattle.fields.specs.Widths.{full}
 use Rattle.sets.specs.Sets.{set_of, tally, some}
 use Rattle.lists.specs.Filters.{Item, Filter, filters_of}
-use Rattle.lists.specs.Refusals.{listed}
+use Rattle.lists.specs.Refusals.{Listed, listed}
 use Rattle.lists.specs.Ranks.{group_of, level_of, fires}
-use Rattle.lists.specs.declared.Listed.{Listed}
-use Rattle.lists.specs.declared.Listed.TheVariants as L
 use Rattle.states.specs.States.{State, out, standing, is_held, is_out, cut_standing, all_left, Question, nothing, ask, question_of, out_set}
 use Rattle.states.specs.Runs.{asks}
 use Rattle.states.specs.Same.{same_state}
@@ -20,7 +18,6 @@ use Rattle.automaton.specs.Machines.{Machine, visit, records_of}
 use Rattle.slots.specs.Words.{question_words}
 use Rattle.machine.specs.Box.{levels_of}
 use Rattle.words.specs.Lent.{cleared}
-use Rattle.builder.specs.declared.Built.TheVariants as B
 use Rattle.builder.specs.Outcome.{Left, scratch_words, refused, no_room}
 
 abbrev pub Ranking : Type 0
@@ -35,10 +32,10 @@ old_above fs i j = old_outranks (group_of fs i) (level_of fs i) i (group_of fs j
 module _ (ranks : Ranking) where
   -- ---- lists
 
-  unfoldable pub matches_under : List Filter → (ℕ → Reading) → ℕ → Bool
+  unfoldable pub matches_under : List Filter → (ℕ → Option ℕ) → ℕ → Bool
   matches_under fs r i = fires fs r i && not (some (length fs) (λ j. ranks fs j i && fires fs r j))
 
-  unfoldable pub match_set_under : List Filter → (ℕ → Reading) → ℕ
+  unfoldable pub match_set_under : List Filter → (ℕ → Option ℕ) → ℕ
   match_set_under fs r = set_of (tally (length fs) (λ i. matches_under fs r i))
 
   -- ---- states
@@ -97,19 +94,19 @@ module _ (ranks : Ranking) where
   unfoldable pub placed_under : List Filter → List ℕ → List ℕ → Left
   placed_under fs t s =
       record {
-        answer = B.States (length (states_under fs));
+        answer = Ok (length (states_under fs));
         table = records_under fs ++ drop (length (records_under fs)) t;
         scratch = cleared (scratch_words t) s;
       }
 
   unfoldable pub by_room_under : List Filter → List ℕ → List ℕ → Left
   by_room_under fs t s =
-      cond (ltb (length s) (scratch_words t)) (refused 10 0 t s)
+      cond (ltb (length s) (scratch_words t)) (refused ScratchRoom 0 t s)
       (cond (ltb (slots_of t) (length (states_under fs))) (no_room t s) (placed_under fs t s))
 
   unfoldable pub outcome_by_under : Listed → List ℕ → List ℕ → List ℕ → Left
-  outcome_by_under (L.Refused r i) l t s = refused r i t s
-  outcome_by_under (L.Accepted n k) l t s = by_room_under (filters_of l) t s
+  outcome_by_under (Err r) l t s = refused r.refusal r.place t s
+  outcome_by_under (Ok c) l t s = by_room_under (filters_of l) t s
 
   unfoldable pub outcome_under : List ℕ → List ℕ → List ℕ → Left
   outcome_under l t s = outcome_by_under (listed l) l t s

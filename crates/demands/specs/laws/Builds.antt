@@ -1,24 +1,23 @@
 -- What the answer of a build says of the list and the room.
 --   Success l t s   the list is accepted, its states fit the slots, and its records stand in the table
-use Rattle.std.specs.Prelude.{ℕ, ◌≤◌, ◌<◌, ◌≡◌, Bool, cond, List}
+use Rattle.std.specs.Prelude.{ℕ, ◌≤◌, ◌<◌, ◌≡◌, Bool, cond, List, Ok, Err}
 use Rattle.std.proofs.Common.{arith, ◌∙◌, ltb-true, ltb-false}
 use Rattle.std.proofs.Math.Path.{refl, ap}
 use Rattle.std.proofs.Math.Bool.{true, false}
 use Rattle.std.proofs.Math.Dec.{ltb}
 use Rattle.std.proofs.Math.ListN.{length}
+use Rattle.refusals.specs.declared.Refusal.TheVariants.{ScratchRoom}
 use Rattle.lists.specs.Filters.{Filter, filters_of}
 use Rattle.lists.specs.inner.Well.{well_filters}
-use Rattle.lists.specs.Refusals.{listed}
+use Rattle.lists.specs.Refusals.{Listed, counts, listed}
 use Rattle.lists.specs.laws.Accepted.{accepted_well}
-use Rattle.lists.specs.declared.Listed.{Listed}
-use Rattle.lists.specs.declared.Listed.TheVariants as L
 use Rattle.tables.specs.Tables.{slots_of}
 use Rattle.machine.specs.Box.{states_of}
 use Rattle.builder.specs.Outcome.{refusal_of, Left, scratch_words, refused, no_room, placed, by_room, outcome_by, outcome}
 use Rattle.lists.specs.laws.Faults.{Faulty, listed_faulty}
 
 pub record Success (l t s : List ℕ) : Type 0 where
-  pub listing : (n : ℕ) × (k : ℕ) × (listed l ≡ L.Accepted n k)
+  pub listing : (n : ℕ) × (k : ℕ) × (listed l ≡ Ok (counts n k))
   pub well : well_filters (filters_of l) ≡ true
   pub fits : length (states_of (filters_of l)) ≤ slots_of t
   pub left : outcome l t s ≡ placed (filters_of l) t s
@@ -27,13 +26,13 @@ pub record Success (l t s : List ℕ) : Type 0 where
 
 module _ (fs : List Filter) (t s : List ℕ) where
   accepted_cases :
-      (P : Left → Type 0) → (length s < scratch_words t → P (refused 10 0 t s)) → (scratch_words t ≤ length s → slots_of t < length (states_of fs) → P (no_room t s)) →
+      (P : Left → Type 0) → (length s < scratch_words t → P (refused ScratchRoom 0 t s)) → (scratch_words t ≤ length s → slots_of t < length (states_of fs) → P (no_room t s)) →
       (scratch_words t ≤ length s → length (states_of fs) ≤ slots_of t → P (placed fs t s)) → P (by_room fs t s)
   unfolding by_room
   accepted_cases P f g k = go (ltb (length s) (scratch_words t)) (ltb (slots_of t) (length (states_of fs))) refl refl
     where
       go : (b c : Bool) → ltb (length s) (scratch_words t) ≡ b → ltb (slots_of t) (length (states_of fs)) ≡ c →
-          P (cond b (refused 10 0 t s) (cond c (no_room t s) (placed fs t s)))
+          P (cond b (refused ScratchRoom 0 t s) (cond c (no_room t s) (placed fs t s)))
       go true c p q = f (ltb-true _ _ p)
       go false true p q = g (ltb-false _ _ p) (ltb-true _ _ q)
       go false false p q = k (ltb-false _ _ p) (ltb-false _ _ q)
@@ -63,12 +62,12 @@ module _ (l t s : List ℕ) where
   build_success e = go (listed l) refl (listed_faulty l) e
     where
       go : (c : Listed) → listed l ≡ c → Faulty c → refusal_of (outcome_by c l t s).answer ≡ 0 → Success l t s
-      go (L.Refused r i) p some e = absurd (omega arith)
-      go (L.Accepted n k) p some e =
+      go (Err r) p some e = absurd (omega arith)
+      go (Ok c) p some e =
           let a = accepted_built (filters_of l) t s e in
-          record { listing = (n, k, p); well = accepted_well l n k p; fits = a.0; left = ap (λ (c : Listed). outcome_by c l t s) p ∙ a.1 }
+          record { listing = (c.filters, c.tests, p); well = accepted_well l c.filters c.tests p; fits = a.0; left = ap (λ (c : Listed). outcome_by c l t s) p ∙ a.1 }
 
-  module _ (n k : ℕ) (e : listed l ≡ L.Accepted n k) (enough : scratch_words t ≤ length s) where
+  module _ (n k : ℕ) (e : listed l ≡ Ok (counts n k)) (enough : scratch_words t ≤ length s) where
     accepted_outcome : outcome l t s ≡ by_room (filters_of l) t s
     unfolding outcome outcome_by
     accepted_outcome = ap (λ (c : Listed). outcome_by c l t s) e

@@ -1,15 +1,13 @@
 -- Document 02, P9: every call takes a frame by its length and by what its fields are seen as, so two frames that steer alike get one answer.
 -- Assumes nothing.
-use Rattle.std.specs.Prelude.{ℕ, ◌≡◌, List}
+use Rattle.std.specs.Prelude.{ℕ, ◌≡◌, List, Ok, Err}
 use Rattle.std.proofs.Math.Path.{refl, fun_ext}
 use Rattle.std.proofs.Common.{sym, ap, ◌∙◌}
 use Rattle.fields.specs.Fields.{field}
 use Rattle.fields.specs.Seen.{seen}
 use Rattle.fields.specs.Steering.{SteerAlike}
 use Rattle.fields.proofs.laws.Agree.{seen_alike}
-use Rattle.lists.specs.Refusals.{listed}
-use Rattle.lists.specs.declared.Listed.{Listed}
-use Rattle.lists.specs.declared.Listed.TheVariants.{Accepted, Refused}
+use Rattle.lists.specs.Refusals.{Listed, listed}
 use Rattle.matcher.specs.Walk.{walk}
 use Rattle.scanner.specs.Scan.{scanned_by, scanned}
 use Rattle.lamp.specs.Lamp.{lamp_by, lamp_of}
@@ -30,8 +28,8 @@ module _ (f g : List ℕ) (alike : SteerAlike f g) (p : ℕ) where
 
   scan_by : (x : Listed) (l : List ℕ) → scanned_by x l f p ≡ scanned_by x l g p
   unfolding scanned_by
-  scan_by (Refused r i) l = refl
-  scan_by (Accepted n k) l = rw (alike.long, same_field)
+  scan_by (Err r) l = refl
+  scan_by (Ok c) l = rw (alike.long, same_field)
 
   pub same_scan : (l : List ℕ) → scanned l f p ≡ scanned l g p
   unfolding scanned
@@ -39,8 +37,8 @@ module _ (f g : List ℕ) (alike : SteerAlike f g) (p : ℕ) where
 
   lamp_by_lem : (x : Listed) (l t : List ℕ) (m : ℕ) → lamp_by x l f p t m ≡ lamp_by x l g p t m
   unfolding lamp_by
-  lamp_by_lem (Refused r i) l t m = refl
-  lamp_by_lem (Accepted n k) l t m = rw (alike.long, same_field)
+  lamp_by_lem (Err r) l t m = refl
+  lamp_by_lem (Ok c) l t m = rw (alike.long, same_field)
 
   pub same_lamp : (l t : List ℕ) (m : ℕ) → lamp_of l f p t m ≡ lamp_of l g p t m
   unfolding lamp_of

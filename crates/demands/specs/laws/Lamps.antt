@@ -2,18 +2,16 @@
 --   damage_refused     a damaged record is never what document 01 gives for a state of an accepted list
 --   labelled_lamp      over a table whose records are given the states that document 01 gives them the walk is not refused
 -- Assumes nothing.
-use Rattle.std.specs.Prelude.{ℕ, zero, suc, ◌+◌, ◌≤◌, ◌<◌, ◌≡◌, false, ◌||◌, List, eqb, ltb, length}
+use Rattle.std.specs.Prelude.{ℕ, zero, suc, ◌+◌, ◌≤◌, ◌<◌, ◌≡◌, false, ◌||◌, List, eqb, ltb, length, Option, Ok}
 use Rattle.std.proofs.Common.{arith, sym, ap, ◌∙◌, ⊎_elim, ltb-true, le-ltb, ne_eqb}
 use Rattle.std.proofs.Math.Path.{refl}
 use Rattle.std.proofs.Math.Bool.{true}
 use Rattle.residue.specs.laws.Choice.{by_test, never, clash}
-use Rattle.residue.specs.declared.Reading.{Reading}
 use Rattle.fields.specs.Ethernet.{max_frame}
 use Rattle.fields.specs.Fields.{field}
 use Rattle.fields.specs.Widths.{field_count}
 use Rattle.lists.specs.Filters.{Item, Filter, filters_of, tests_in, kind_at}
-use Rattle.lists.specs.Refusals.{listed}
-use Rattle.lists.specs.declared.Listed.TheVariants.{Accepted}
+use Rattle.lists.specs.Refusals.{counts, listed}
 use Rattle.states.specs.States.{State, nothing, ask, question_of}
 use Rattle.states.specs.Runs.{way_of, advance}
 use Rattle.states.specs.inner.Choices.{Picked}
@@ -48,7 +46,7 @@ damage_refused t n s h d =
 
 -- ---- a labelled table
 
-module _ {fs : List Filter} {t : List ℕ} {m : ℕ} (x : LabelledBy Picked fs t m) (r : ℕ → Reading) where
+module _ {fs : List Filter} {t : List ℕ} {m : ℕ} (x : LabelledBy Picked fs t m) (r : ℕ → Option ℕ) where
   abbrev Passes : ℕ → ℕ → ℕ → Type 0
   Passes a k n = (numbers_of (lamp_from fs t m r a k n (x.give n))).refusal ≡ 0
 
@@ -96,7 +94,7 @@ module _ {fs : List Filter} {t : List ℕ} {m : ℕ} (x : LabelledBy Picked fs t
 
 -- So the lamp is not refused for a list that is accepted and a frame that is not too long.
 pub labelled_lamp :
-    (l f : List ℕ) (p : ℕ) (t : List ℕ) (m c k : ℕ) → listed l ≡ Accepted c k → length f ≤ max_frame → LabelledBy Picked (filters_of l) t m →
+    (l f : List ℕ) (p : ℕ) (t : List ℕ) (m c k : ℕ) → listed l ≡ Ok (counts c k) → length f ≤ max_frame → LabelledBy Picked (filters_of l) t m →
     (numbers_of (lamp_of l f p t m)).refusal ≡ 0
 labelled_lamp l f p t m c k e short x =
     let fs = filters_of l in

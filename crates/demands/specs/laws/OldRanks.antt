@@ -3,7 +3,7 @@
 --   match_set_alike, states_alike, records_alike, outcome_alike   so match sets, states, records and what building comes to are the same
 --   moved_alike              a list of group 0 under the old ranking, beside the same in another group
 --   present_alike            a list under the present ranking, beside itself
-use Rattle.std.specs.Prelude.{ℕ, ◌+◌, ◌≤◌, ◌<◌, ◌≡◌, Bool, true, ◌&&◌, eqb, length, get_or}
+use Rattle.std.specs.Prelude.{ℕ, ◌+◌, ◌≤◌, ◌<◌, ◌≡◌, Bool, true, ◌&&◌, eqb, length, get_or, Option, Ok, Err}
 use Rattle.std.proofs.Common.{arith, ◌∙◌, eq-eqb}
 use Rattle.std.proofs.Math.Path.{refl, sym, ap, ap₂}
 use Rattle.std.proofs.Math.Bool.{cond, not}
@@ -11,21 +11,18 @@ use mathlib.Core.List.{List, [], ◌∷◌, map, map-map}
 use Rattle.std.proofs.Math.Dec.{ltb}
 use Rattle.std.proofs.lemmas.List.{length-map}
 use Rattle.std.proofs.Math.ListN.{get_or-map}
-use Rattle.residue.specs.declared.Reading.{Reading}
 use Rattle.residue.specs.declared.Outcome.{Outcome}
 use Rattle.residue.specs.Facts.{fact_of}
 use Rattle.fields.specs.Widths.{full}
 use Rattle.sets.specs.Sets.{set_of, tally, some}
 use Rattle.sets.specs.laws.Members.{tally_ext, some_ext}
 use Rattle.lists.specs.Filters.{Item, Filter, filters_of, tests_in}
-use Rattle.lists.specs.Refusals.{listed}
+use Rattle.lists.specs.Refusals.{Listed, listed}
 use Rattle.lists.specs.Ranks.{no_filter, level_of, tests_of, outranks, above, all_hold, fires, matches, match_set}
 use Rattle.lists.specs.inner.Well.{well_filters}
 use Rattle.lists.specs.inner.Moved.{all_in, in_group, moved}
 use Rattle.lists.specs.laws.Accepted.{accepted_well}
 use Rattle.lists.specs.laws.Moved.{group_in_lem, at_moved}
-use Rattle.lists.specs.declared.Listed.{Listed}
-use Rattle.lists.specs.declared.Listed.TheVariants as L
 use Rattle.states.specs.States.{State, out, left, standing, is_held, is_out, cut_standing, all_left, beaten, closed_from, closed, start, Question, nothing, ask, question_of, step_by, step_at, step, sure, sure_set, out_set}
 use Rattle.automaton.specs.Machines.{record_of, flat, records_of}
 use Rattle.automaton.proofs.laws.Lists.{each_nil}
@@ -81,16 +78,16 @@ module _ (ranks : Ranking) (fs gs : List Filter) (same : RanksAlike ranks fs gs)
 
   -- ---- the match set
 
-  fires_alike : (r : ℕ → Reading) (i : ℕ) → fires fs r i ≡ fires gs r i
+  fires_alike : (r : ℕ → Option ℕ) (i : ℕ) → fires fs r i ≡ fires gs r i
   unfolding fires
   fires_alike r i = ap₂ (λ (n : ℕ) (ts : List Item). ltb i n && all_hold r ts) length_alike (tests_alike i)
 
-  matches_alike : (r : ℕ → Reading) (i : ℕ) → i < length fs → matches_under ranks fs r i ≡ matches gs r i
+  matches_alike : (r : ℕ → Option ℕ) (i : ℕ) → i < length fs → matches_under ranks fs r i ≡ matches gs r i
   unfolding matches_under matches
   matches_alike r i l =
       ap₂ (λ (a b : Bool). a && not b) (fires_alike r i) (some_alike i l (λ j. fires fs r j) (λ j. fires gs r j) (fires_alike r))
 
-  pub match_set_alike : (r : ℕ → Reading) → match_set_under ranks fs r ≡ match_set gs r
+  pub match_set_alike : (r : ℕ → Option ℕ) → match_set_under ranks fs r ≡ match_set gs r
   unfolding match_set_under match_set
   match_set_alike r = set_alike (λ i. matches_under ranks fs r i) (λ i. matches gs r i) (matches_alike r)
 
@@ -186,8 +183,8 @@ unfolding outcome_under outcome outcome_by_under outcome_by
 outcome_alike ranks l l' same e t s = ap (λ (x : Listed). outcome_by_under ranks x l t s) e ∙ go (listed l') refl
   where
     go : (x : Listed) → listed l' ≡ x → outcome_by_under ranks x l t s ≡ outcome_by x l' t s
-    go (L.Refused r i) z = refl
-    go (L.Accepted n k) z = by_room_alike ranks (filters_of l) (filters_of l') same (accepted_well l' n k z) t s
+    go (Err r) z = refl
+    go (Ok c) z = by_room_alike ranks (filters_of l) (filters_of l') same (accepted_well l' c.filters c.tests z) t s
 
 -- ---- which lists are alike
 

@@ -1,9 +1,8 @@
 -- A frame's walk over a built table: the table is labelled by the list's states, so demands 2 and 3 hold of it as of every labelled table; its questions are document 01's, so its path is.
 -- Assumes nothing.
-use Rattle.std.specs.Prelude.{ℕ, ◌≤◌, ◌<◌, ◌/◌, ◌≡◌, ◌⊎◌, true, false, not, ◌&&◌, List, length, drop}
+use Rattle.std.specs.Prelude.{ℕ, ◌≤◌, ◌<◌, ◌/◌, ◌≡◌, ◌⊎◌, true, false, not, ◌&&◌, List, length, drop, Option, Ok}
 use Rattle.std.proofs.Common.{arith, sym, ap, ◌∙◌}
 use Rattle.std.proofs.Math.Nat.{min-le_right}
-use Rattle.residue.specs.declared.Reading.{Reading}
 use Rattle.fields.specs.Fields.{field}
 use Rattle.fields.specs.Seen.{seen}
 use Rattle.fields.specs.declared.Seen.{Seen}
@@ -21,7 +20,6 @@ use Rattle.machine.specs.Box.{records_in}
 use Rattle.matcher.specs.Walk.{found, is_done}
 use Rattle.scanner.specs.Scan.{scanned}
 use Rattle.scanner.specs.laws.Scans.{scanned_set}
-use Rattle.scanner.specs.declared.Scanned.TheVariants.{Matched}
 use Rattle.lamp.specs.Lamp.{numbers_of, lamp_of}
 use Rattle.builder.specs.Outcome.{refusal_of, number_of, placed, outcome}
 use Rattle.labels.specs.Labels.{shown_at, readings, met_in, Legal}
@@ -48,7 +46,7 @@ module _ (l t s : List ℕ) (built : refusal_of (outcome l t s).answer ≡ 0) wh
   table_labelled = rw success.left (built_labelled fs success.well (drop (length (records_in fs)) t) (few_slots t _ success.fits))
 
   module _ (f : List ℕ) (p : ℕ) (legal : Legal f p) where
-    abbrev r : ℕ → Reading
+    abbrev r : ℕ → Option ℕ
     r = field f p
 
     abbrev v : ℕ → Seen
@@ -69,10 +67,10 @@ module _ (l t s : List ℕ) (built : refusal_of (outcome l t s).answer ≡ 0) wh
     pub all_matches : (a : ℕ) → tests_in fs ≤ a → (i : ℕ) → member i (found (walked l t s f p a)).sure ≡ matches fs r i
     all_matches a enough i = rw (seen_field f p) at (shows_matches question_left success.well widths (shows a) enough i)
 
-    pub all_scanned : (a : ℕ) → tests_in fs ≤ a → scanned l f p ≡ Matched (found (walked l t s f p a)).sure
+    pub all_scanned : (a : ℕ) → tests_in fs ≤ a → scanned l f p ≡ Ok (found (walked l t s f p a)).sure
     all_scanned a enough =
         scanned_set l f p success.listing.0 success.listing.1 success.listing.2 legal.short ∙
-        ap Matched (sym (rw (seen_field f p) at (shows_set question_left success.well widths (shows a) enough)))
+        ap Ok (sym (rw (seen_field f p) at (shows_set question_left success.well widths (shows a) enough)))
 
     pub all_lamps : (numbers_of (lamp_of l f p (outcome l t s).table (number_of (outcome l t s).answer))).refusal ≡ 0
     all_lamps = labelled_lamp l f p _ _ success.listing.0 success.listing.1 success.listing.2 legal.short table_labelled

@@ -1,18 +1,17 @@
 -- The answers of both calls together are what Whole says.
 -- Assumes nothing.
-use Rattle.std.specs.Prelude.{ℕ, ◌≤◌, ◌<◌, ◌^◌, ◌≡◌, List, length}
+use Rattle.std.specs.Prelude.{ℕ, ◌≤◌, ◌<◌, ◌^◌, ◌≡◌, List, length, Result, Ok, Err}
+use Rattle.refusals.specs.declared.Refusal.{Refusal}
+use Rattle.refusals.specs.declared.Refused.{Refused}
 use Rattle.std.proofs.Common.{arith, sym, ap₂, ◌∙◌}
 use Rattle.std.proofs.Math.Path.{ap}
+use Rattle.refusals.specs.laws.Above.{number_above}
 use Rattle.fields.specs.Ethernet.{max_frame}
 use Rattle.fields.specs.Bytes.{Bytes}
 use Rattle.lists.specs.Filters.{filters_of}
 use Rattle.machine.specs.Box.{states_of}
-use Rattle.builder.specs.declared.Built.{Built}
-use Rattle.builder.specs.declared.Built.TheVariants as B
-use Rattle.builder.specs.laws.Building.{states_unrefused}
 use Rattle.builder.specs.Outcome as O
-use Rattle.matcher.specs.declared.Answer.{Answer}
-use Rattle.matcher.specs.declared.Answer.TheVariants as A
+use Rattle.matcher.specs.declared.Walk.{Walk}
 use Rattle.matcher.specs.Walk as W
 use Rattle.labels.specs.Labels.{Legal}
 use Rattle.demands.specs.laws.Builds.{build_success}
@@ -21,22 +20,20 @@ use Rattle.demands.specs.laws.Settled.{exact, all_done, all_matches, open_so, su
 use Rattle.demands.specs.Whole.{Told, Whole}
 
 module _ (l t s f : List ℕ) (p a : ℕ) where
-  abbrev answer : Built
+  abbrev answer : Result ℕ (Refused ℕ)
   answer = (O.outcome l t s).answer
 
   -- No list that was built is refused.
-  unbuilt_some : (r i : ℕ) → B.Refused r i ≡ answer → O.refusal_of answer ≡ 0 → ⊥
-  unfolding O.placed
-  unbuilt_some r i e z = states_unrefused (length (states_of (filters_of l))) r i (sym (e ∙ ap (λ (x : O.Left). x.answer) (build_success l t s z).left))
+  unbuilt_some : (r : Refused ℕ) → Err r ≡ answer → O.refusal_of answer ≡ 0 → ⊥
+  unbuilt_some r e z = omega (arith, number_above r.refusal, ap O.refusal_of e)
 
-  pub whole_refused : (r i : ℕ) → B.Refused r i ≡ answer → Whole l t s f p a (A.Refused r)
-  whole_refused r i e =
-      let same : r ≡ O.refusal_of answer = ap O.refusal_of e in
-      let some = unbuilt_some r i e in
-      record { unbuilt = λ _. ap A.Refused same; walks = λ z. absurd (some z); demands = λ z _. absurd (some z) }
+  pub whole_refused : (r : Refused ℕ) → Err r ≡ answer → Whole l t s f p a (Err r.refusal)
+  whole_refused r e =
+      let some = unbuilt_some r e in
+      record { unbuilt = λ q g. ap (λ (x : Refused ℕ). Err x.refusal) (err_one r q (e ∙ g)); walks = λ z. absurd (some z); demands = λ z _. absurd (some z) }
 
   -- A walk over what was built; the frame's bytes and the port are bytes.
-  module _ (n : ℕ) (t' : List ℕ) (x : Answer) (e : B.States n ≡ answer) (same : t' ≡ (O.outcome l t s).table)
+  module _ (n : ℕ) (t' : List ℕ) (x : Result Walk Refusal) (e : Ok n ≡ answer) (same : t' ≡ (O.outcome l t s).table)
       (w : x ≡ W.walk f p t' n a) (bytes : Bytes f) (port : p < 2 ^ 8) where
     follows : x ≡ walked l t s f p a
     follows = w ∙ ap₂ (λ (u : List ℕ) (m : ℕ). W.walk f p u m a) same (ap O.number_of e)
@@ -63,7 +60,7 @@ module _ (l t s f : List ℕ) (p a : ℕ) where
     pub whole_built : Whole l t s f p a x
     whole_built =
         record {
-          unbuilt = λ z. absurd (omega (arith, built));
+          unbuilt = λ r g. absurd (omega (arith, number_above r.refusal, built ∙ ap O.refusal_of g));
           walks = λ _. follows;
           demands = λ z h. rw follows (all_told z (legal h));
         }
