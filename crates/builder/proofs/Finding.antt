@@ -1,5 +1,6 @@
 -- Looking for a state among the first states of the slots: a state whose record does not agree is another, the first that is the same decides, and longer lists of states agree.
 -- Assumes nothing.
+use Rattle.std.specs.Prelude.{Some, None}
 use Prim.Native.Nat.{ℕ, zero, suc, ◌+◌, ◌*◌, ◌-◌, ◌≤◌, ◌<◌}
 use mathlib.Core.Path.{◌≡◌, refl, sym, ap, ◌∙◌, subst}
 use mathlib.Core.Bool.{Bool, true, false, cond, not, ◌||◌, false≢true}
@@ -24,9 +25,10 @@ use Rattle.automaton.proofs.laws.Telling.{told_at}
 use Rattle.automaton.proofs.laws.Lists.{Begins, begins_refl, begins_append, begins_trans}
 use Rattle.automaton.proofs.laws.Places.{meets_append, place_begins}
 use Rattle.builder.specs.inner.Memory.{slot_at, states_in, records_at, memory_of, sought_in}
-use Rattle.builder.specs.inner.Promises.{Shows, Search}
+use Rattle.builder.specs.inner.Promises.{Shows}
+use Rattle.builder.specs.inner.Builders.{Search, made}
+use Rattle.builder.specs.declared.rooms.Builder.{Builder}
 use Rattle.builder.specs.laws.WaysPlaced.{length_states}
-use Rattle.builder.specs.declared.Sought.TheVariants as F
 
 -- The part of the slots that a call is lent is the state there.
 pub slot_part : (n i : ℕ) (s : List ℕ) → take (slot_words * i + filter_slot * n - slot_words * i) (drop (slot_words * i) s) ≡ slot_at n s i
@@ -140,22 +142,25 @@ unmet_over n i (suc k) s c other none =
 pub later_next : (used : ℕ) (t f : List ℕ) (i r : ℕ) → r ≡ agreeing_from (used - i) i t f → i ≤ r
 later_next used t f i r is = let low = (agreeing_in t f (used - i) i).0 in omega arith
 
-pub unmet_next : (n used : ℕ) (t s c : List ℕ) (f : Fresh) → Search n used t s c f → (i r : ℕ) → i ≤ used → Unmet n i s c → r ≡ agreeing_from (used - i) i t (fresh_by f)
-    → (r ≤ used) × Unmet n r s c
-unmet_next n used t s c f asked i r h none is =
+pub unmet_next : (b : Builder) {used : ℕ} {f : Fresh} → Search b used f → (i r : ℕ) → i ≤ used → Unmet b.n i b.scratch.now (made b)
+    → r ≡ agreeing_from (used - i) i b.table.now (fresh_by f) → (r ≤ used) × Unmet b.n r b.scratch.now (made b)
+unmet_next b {used} {f} asked i r h none is =
+    let t = b.table.now in
+    let s = b.scratch.now in
+    let c = made b in
     let low = (agreeing_in t (fresh_by f) (used - i) i).0 in
     let high = (agreeing_in t (fresh_by f) (used - i) i).1 in
     let whole : i + (r - i) ≡ r = omega arith in (
       omega arith,
-      subst (λ (m : ℕ). Unmet n m s c) whole
-          (unmet_over n i (r - i) s c
+      subst (λ (m : ℕ). Unmet b.n m s c) whole
+          (unmet_over b.n i (r - i) s c
           (λ (j : ℕ) (from : i ≤ j) (to : j < i + (r - i)).
-          other_record n j t s c f (asked.shows j (omega arith)) (agreeing_over t (fresh_by f) (used - i) i j from (subst (λ (m : ℕ). j < m) (whole ∙ is) to)))
+          other_record b.n j t s c f (asked.shows j (omega arith)) (agreeing_over t (fresh_by f) (used - i) i j from (subst (λ (m : ℕ). j < m) (whole ∙ is) to)))
           none),
     )
 
 pub found_at : (n i used : ℕ) (s c : List ℕ) → i < used → Unmet n i s c → true ≡ same_words (slot_at n s i) c
-    → (ranks : List ℕ) → F.At i ≡ sought_in n ranks (states_in n used s) c
+    → (ranks : List ℕ) → Some i ≡ sought_in n ranks (states_in n used s) c
 unfolding sought_in
 found_at n i used s c h none e ranks =
     let M = slots_in n ranks in
@@ -166,13 +171,13 @@ found_at n i used s c h none e ranks =
     ∙ ap (λ (l : List (List ℕ)). place_of M l c) (states_next n i s)
     ∙ place_more M (states_in n i s) (slot_at n s i) c (none ranks) (sym e)
     ∙ length_states n i s in
-    sym (ap (λ (b : Bool). cond b (F.At (place_of M (states_in n used s) c)) F.Nothing) (meets_begins M c begins met)
-    ∙ ap (λ (k : ℕ). F.At k) place)
+    sym (ap (λ (b : Bool). cond b (Some (place_of M (states_in n used s) c)) None) (meets_begins M c begins met)
+    ∙ ap (λ (k : ℕ). Some k) place)
 
 pub found_nothing : (n i used : ℕ) (s c : List ℕ) → i ≤ used → used ≤ i → Unmet n i s c
-    → (ranks : List ℕ) → F.Nothing ≡ sought_in n ranks (states_in n used s) c
+    → (ranks : List ℕ) → None ≡ sought_in n ranks (states_in n used s) c
 unfolding sought_in
 found_nothing n i used s c h k none ranks =
     let M = slots_in n ranks in
     let same : i ≡ used = omega arith in
-    sym (ap (λ (b : Bool). cond b (F.At (place_of M (states_in n used s) c)) F.Nothing) (subst (λ (m : ℕ). meets M (states_in n m s) c ≡ false) same (none ranks)))
+    sym (ap (λ (b : Bool). cond b (Some (place_of M (states_in n used s) c)) None) (subst (λ (m : ℕ). meets M (states_in n m s) c ≡ false) same (none ranks)))

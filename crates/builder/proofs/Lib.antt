@@ -1,4 +1,4 @@
 pub mod Finding
 pub mod Storing
 pub mod Meeting
-pub mod Starting
+pub mod Following

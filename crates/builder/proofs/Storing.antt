@@ -1,11 +1,12 @@
 -- A state and its record are put into lent memory behind the others, which stay.
 -- Assumes nothing.
-use Prim.Native.Nat.{ℕ, ◌+◌, ◌*◌, ◌-◌, ◌≤◌}
+use Prim.Native.Nat.{ℕ, ◌+◌, ◌*◌, ◌-◌, ◌≤◌, ◌<◌}
 use mathlib.Core.Path.{◌≡◌, refl, sym, ap, ap₂, ◌∙◌, subst}
 use mathlib.Core.List.{List, [], ◌∷◌, ◌++◌}
 use native.Mathlib.Omega.{arith}
 use borrow.Rule.Slice.PartMut.{mid_of, put_mid}
 use lib.ListN.{length, take, drop}
+use lib.Seq.{length-take-le}
 use Rattle.words.specs.laws.Lending.{later, put_before, put_there, put_behind}
 use Rattle.tables.specs.Tables.{record_words}
 use Rattle.tables.specs.inner.Records.{fresh_record, fresh_by, record_at}
@@ -18,7 +19,9 @@ use Rattle.machine.specs.inner.Slots.{slots_in}
 use Rattle.automaton.specs.inner.Placing.{fresh_of, stored}
 use Rattle.builder.specs.inner.Memory.{slot_at, states_in, records_at, memory_of}
 use Rattle.builder.specs.laws.Memory.{states_more, records_more}
-use Rattle.builder.specs.inner.Promises.{Store, Stored}
+use Rattle.builder.specs.inner.Promises.{Stored}
+use Rattle.builder.specs.inner.Builders.{made}
+use Rattle.builder.specs.declared.rooms.Builder.{Builder}
 
 -- The record that the code makes is the candidate's.
 pub fresh_is : (n : ℕ) (ranks c : List ℕ) (f : Fresh) → f.kind ∷ f.field ∷ f.mask ∷ f.value ∷ [] ≡ question_in n c → f.sure ≡ sure_set_in n ranks c → f.out ≡ out_set_in n c
@@ -51,34 +54,41 @@ record_there : (used : ℕ) (t w q : List ℕ) → length w ≡ record_words →
 unfolding record_at
 record_there used t w q long room f = put_there (record_words * used) record_words t w q long room f
 
--- The candidate is copied into a lent tail of the slots, its record into one of the table.
-pub stored_both : (n slots : ℕ) (ranks : List ℕ) (used : ℕ) (t s c p q fresh : List ℕ) → Store n slots used t s c
-    → p ≡ c ++ drop (length c) (mid_of (slot_words * used) (length s - slot_words * used) s)
-    → q ≡ fresh ++ drop record_words (mid_of (record_words * used) (length t - record_words * used) t) → fresh ≡ fresh_of (slots_in n ranks) c
-    → Stored n slots ranks used t s c (put_mid (record_words * used) (length t - record_words * used) t q) (put_mid (slot_words * used) (length s - slot_words * used) s p)
-stored_both n slots ranks used t s c p q fresh asked e f is =
-    let filters = asked.filters in
-    let below = asked.below in
-    let tabled = asked.tabled in
-    let scratched = asked.scratched in
-    let whole = asked.whole in
-    let a : ℕ = slot_words * used in
-    let b : ℕ = record_words * used in
-    let s' : List ℕ = put_mid a (length s - a) s p in
-    let t' : List ℕ = put_mid b (length t - b) t q in
-    let fits : a + length c ≤ length s = omega arith in
-    let room : b + record_words ≤ length t = omega arith in
+-- The state made last is copied into a lent tail of the slots, its record into one of the table.
+pub stored_both : (b : Builder) (used : ℕ) (p q fresh : List ℕ) → used < b.slots
+    → p ≡ made b ++ drop (length (made b)) (mid_of (slot_words * used) (length b.scratch.now - slot_words * used) b.scratch.now)
+    → q ≡ fresh ++ drop record_words (mid_of (record_words * used) (length b.table.now - record_words * used) b.table.now)
+    → fresh ≡ fresh_of (slots_in b.n b.ranks.now) (made b)
+    → Stored b.n b.slots b.ranks.now used b.table.now b.scratch.now (made b)
+    (put_mid (record_words * used) (length b.table.now - record_words * used) b.table.now q)
+    (put_mid (slot_words * used) (length b.scratch.now - slot_words * used) b.scratch.now p)
+stored_both b used p q fresh below e f is =
+    let n = b.n in
+    let ranks = b.ranks.now in
+    let t = b.table.now in
+    let s = b.scratch.now in
+    let c = made b in
+    let filters = b.filters in
+    let tabled = b.tabled in
+    let scratched = b.scratched in
+    let whole : length c ≡ filter_slot * n = length-take-le (filter_slot * n) b.words.now b.roomy in
+    let x : ℕ = slot_words * used in
+    let y : ℕ = record_words * used in
+    let s' : List ℕ = put_mid x (length s - x) s p in
+    let t' : List ℕ = put_mid y (length t - y) t q in
+    let fits : x + length c ≤ length s = omega arith in
+    let room : y + record_words ≤ length t = omega arith in
     let long = fresh_long n ranks c in
-    let put = f ∙ ap (λ (x : List ℕ). x ++ drop record_words (mid_of b (length t - b) t)) is in
-    let next : b + record_words ≡ record_words * (used + 1) = omega arith in
-    let kept : take a s' ≡ take a s = put_before a (length c) s c p refl fits e in
+    let put = f ∙ ap (λ (w : List ℕ). w ++ drop record_words (mid_of y (length t - y) t)) is in
+    let next : y + record_words ≡ record_words * (used + 1) = omega arith in
+    let kept : take x s' ≡ take x s = put_before x (length c) s c p refl fits e in
     let there : slot_at n s' used ≡ c = slot_there n used s c p whole fits e in
     record {
       memory =
           memory_more n ranks used t s c t' s' (states_more n used s s' c filters kept there)
-          (records_more used t t' (fresh_of (slots_in n ranks) c) (put_before b record_words t (fresh_of (slots_in n ranks) c) q long room put)
+          (records_more used t t' (fresh_of (slots_in n ranks) c) (put_before y record_words t (fresh_of (slots_in n ranks) c) q long room put)
           (record_there used t (fresh_of (slots_in n ranks) c) q long room put));
-      after = subst (λ (k : ℕ). drop k t' ≡ drop k t) next (put_behind b record_words t (fresh_of (slots_in n ranks) c) q long room put);
+      after = subst (λ (k : ℕ). drop k t' ≡ drop k t) next (put_behind y record_words t (fresh_of (slots_in n ranks) c) q long room put);
       kept = kept;
-      beyond = later (a + length c) (slot_words * slots) s' s (omega arith) (put_behind a (length c) s c p refl fits e);
+      beyond = later (x + length c) (slot_words * b.slots) s' s (omega arith) (put_behind x (length c) s c p refl fits e);
     }

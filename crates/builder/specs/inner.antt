@@ -1,3 +1,4 @@
 pub mod Memory
 pub mod Promises
 pub mod Started
+pub mod Builders

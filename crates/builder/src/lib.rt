@@ -13,6 +13,7 @@ use tables::RECORD_WORDS;
 
 mod meet;
 mod place;
+mod rooms;
 mod start;
 
 // The number of states, or a refusal's number with the filter's number or 0.
@@ -22,26 +23,11 @@ pub enum Built {
     Refused(u32, u32),
 }
 
-// What placing states comes to: so many slots used, or a new state that found none.
-#[derive(Clone, Copy)]
-pub enum Extent {
-    Used(usize),
-    Slotless,
-}
-
-// Where a state stands among those met.
-#[derive(Clone, Copy)]
-pub enum Sought {
-    At(usize),
-    Nothing,
-}
-
-// What meeting a state comes to: it stands at a place already, it is new and now stored, or it is new and no slot is left.
+// What meeting a state comes to: it stands at a place already, or it is new and now stored.
 #[derive(Clone, Copy)]
 pub enum Met {
     Old(usize),
     New,
-    Slotless,
 }
 
 // Compiles an accepted list of n filters.
@@ -58,8 +44,8 @@ fn build_accepted(list: &[u32], n: usize, table: &mut [u32], scratch: &mut [u32]
     let extent = start::place_start(&ranks, list, n, slots, table, scratch);
     words::clear(scratch, SLOT_WORDS * slots);
     match extent {
-        Extent::Used(states) => Built::States(states as u32),
-        Extent::Slotless => {
+        Some(states) => Built::States(states as u32),
+        None => {
             words::clear(table, RECORD_WORDS * slots);
             Built::Refused(11, 0)
         }

@@ -2,13 +2,28 @@
 ghost use Rattle.lists.specs.Filters.{filters_of};
 ghost use Rattle.builder.specs.inner.Started.{Started, Startable};
 
-use crate::Extent;
-use crate::meet::{fresh_of, store};
-use crate::place::place_state;
+use crate::rooms::Builder;
 use sets::Set;
 use slots::{FILTER_WORDS, SLOT_WORDS};
 
-// Places the start and its ways. The words of the start become the room in which every later state is made.
+impl Builder<'_> {
+    ghost use Rattle.std.specs.Prelude.{◌≡◌, ℕ};
+    ghost use Rattle.lists.specs.Refusals.{listed};
+    ghost use Rattle.lists.specs.declared.Listed.TheVariants.{Accepted};
+    ghost use Rattle.slots.specs.inner.Slots.{start_words};
+    ghost use Rattle.builder.specs.inner.Builders.{Made};
+
+    // Makes the start of the list.
+    fn begin(&mut self, list: &[u32])
+        requires { (k : ℕ) × (listed list.now ≡ Accepted self.old.n k) }
+        ensures { Made self.old (start_words self.old.n self.old.ranks.now list.now) self.new }
+    {
+        let width = FILTER_WORDS * self.n;
+        slots::start_into(list, &mut self.words[..width], self.n, self.ranks);
+    }
+}
+
+// Places the start and its ways; says how many slots are used then, and nothing where a state found none.
 pub fn place_start(
     ranks: &[Set],
     list: &[u32],
@@ -16,18 +31,24 @@ pub fn place_start(
     slots: usize,
     table: &mut [u32],
     scratch: &mut [u32],
-) -> Extent
+) -> Option<usize>
     requires { Startable n slots ranks.now list.now table.old scratch.old }
     ensures { Started n slots ranks.now (filters_of list.now) table.old scratch.old result table.new scratch.new }
 {
     if slots == 0 {
-        return Extent::Slotless;
+        return None;
     }
-    let width = FILTER_WORDS * n;
     let mut words = [0u32; SLOT_WORDS];
-    slots::start_into(list, &mut words[..width], n, ranks);
-    let start = &words[..width];
-    let fresh = fresh_of(start, n, ranks);
-    store(n, slots, table, scratch, start, fresh, 0);
-    place_state(ranks, n, slots, table, scratch, &mut words, 0, 1)
+    let mut builder = Builder {
+        ranks,
+        n,
+        slots,
+        table,
+        scratch,
+        words: &mut words,
+    };
+    builder.begin(list);
+    let fresh = builder.fresh();
+    builder.store(fresh, 0);
+    builder.place_state(0, 1)
 }

@@ -1,6 +1,6 @@
 -- From what placing leaves to what building promises: the records are the table's front, and clearing leaves zeros.
 -- Assumes nothing.
-use Rattle.std.specs.Prelude.{ℕ, zero, suc, ◌+◌, ◌*◌, ◌≤◌, ◌<◌, ◌≡◌, Bool, leb, ltb, take, drop}
+use Rattle.std.specs.Prelude.{ℕ, zero, suc, ◌+◌, ◌*◌, ◌≤◌, ◌<◌, ◌≡◌, Bool, leb, ltb, take, drop, Option, Some, None}
 use Rattle.std.proofs.Math.Path.{refl, ap, sym, subst}
 use Rattle.std.proofs.Common.{◌∙◌, arith, take-append-drop, take-add, length-take-le}
 use Rattle.std.proofs.Math.Bool.{true, false, cond}
@@ -25,8 +25,6 @@ use Rattle.machine.specs.inner.Slots.{slots_in}
 use Rattle.builder.specs.Outcome.{Left, table_words, scratch_words, refused, no_room, placed, by_room, outcome_by, outcome, Answered}
 use Rattle.builder.specs.inner.Memory.{records_at, memory_of, out_of}
 use Rattle.builder.specs.laws.WaysPlaced.{length_states}
-use Rattle.builder.specs.declared.Extent.{Extent}
-use Rattle.builder.specs.declared.Extent.TheVariants as R
 use Rattle.builder.specs.declared.Built.{Built}
 use Rattle.builder.specs.declared.Built.TheVariants as B
 use Rattle.builder.specs.inner.Started.{Started}
@@ -51,9 +49,13 @@ records_front (suc u) t =
 slotted≢slotless : {M : Machine} {m : Memory M} → ◌≡◌ {A = Placement M} (slotted m) slotless → ⊥
 slotted≢slotless e = let z : ◌≡◌ {A = ℕ} 0 1 = cc in omega arith
 
-module _ (n : ℕ) (ranks : List ℕ) (fs : List Filter) (t s t' s' : List ℕ) where
+enough : (t s : List ℕ) → slot_words * slots_of t ≤ length s → ltb (length s) (scratch_words t) ≡ false
+unfolding scratch_words
+enough t s h = le-ltb (length s) (slot_words * slots_of t) h
+
+module _ {n : ℕ} {ranks : List ℕ} {fs : List Filter} {t s t' s' : List ℕ} where
   -- All states found a slot: the records are those of the states, in the order of their numbers.
-  module _ (u : ℕ) (came : Started n (slots_of t) ranks fs t s (R.Used u) t' s') where
+  module _ (u : ℕ) (came : Started n (slots_of t) ranks fs t s (Some u) t' s') where
     memory_is : (b : Bool) → leb (length (states_of fs)) (slots_of t) ≡ b
         → (b ≡ true) × (memory_of n ranks u t' s' ≡ holding (map written (states_of fs)) (map (record_of (box_of fs) (states_of fs)) (states_of fs)))
     unfolding out_of
@@ -93,53 +95,38 @@ module _ (n : ℕ) (ranks : List ℕ) (fs : List Filter) (t s t' s' : List ℕ) 
         ∙ ap (λ (l : List ℕ). records_in fs ++ l) came.after
         ∙ ap (λ (k : ℕ). records_in fs ++ drop k t) (sym (front_long h))
 
-  cleared_scratch : (r : Extent) → Started n (slots_of t) ranks fs t s r t' s' → cleared (slot_words * slots_of t) s' ≡ cleared (scratch_words t) s
+  cleared_scratch : (r : Option ℕ) → Started n (slots_of t) ranks fs t s r t' s' → cleared (slot_words * slots_of t) s' ≡ cleared (scratch_words t) s
   unfolding cleared scratch_words
   cleared_scratch r came = ap (λ (l : List ℕ). replicate (slot_words * slots_of t) 0 ++ l) came.beyond
 
-  enough : slot_words * slots_of t ≤ length s → ltb (length s) (scratch_words t) ≡ false
-  unfolding scratch_words
-  enough h = le-ltb (length s) (slot_words * slots_of t) h
-
-  pub built_states : (u : ℕ) (r : Extent) → r ≡ R.Used u → Started n (slots_of t) ranks fs t s r t' s'
-      → slot_words * slots_of t ≤ length s → record_words * slots_of t ≤ length t'
+  pub built_states : {u : ℕ} → Started n (slots_of t) ranks fs t s (Some u) t' s' → slot_words * slots_of t ≤ length s → record_words * slots_of t ≤ length t'
       → Answered (by_room fs t s) (B.States u) t' (cleared (slot_words * slots_of t) s')
   unfolding by_room placed
-  built_states u r e came₀ hs ht =
-      let came : Started n (slots_of t) ranks fs t s (R.Used u) t' s' =
-      subst (λ (x : Extent). Started n (slots_of t) ranks fs t s x t' s') e came₀ in
-      let same : by_room fs t s ≡ placed fs t s = rw (enough hs, le-ltb (slots_of t) (length (states_of fs)) (fits u came)) in
-      subst (λ (l : Left). Answered l (B.States u) t' (cleared (slot_words * slots_of t) s')) (sym same)
+  built_states {u} came hs ht =
+      let same : by_room fs t s ≡ placed fs t s = rw (enough t s hs, le-ltb (slots_of t) (length (states_of fs)) (fits u came)) in
+      rw same
       (record {
         answer = ap B.States (states_are u came);
         table = table_is u came ht;
-        scratch = cleared_scratch (R.Used u) came;
+        scratch = cleared_scratch (Some u) came;
       })
 
-  cleared_table : Started n (slots_of t) ranks fs t s R.Slotless t' s' → cleared (record_words * slots_of t) t' ≡ cleared (table_words t) t
+  cleared_table : Started n (slots_of t) ranks fs t s None t' s' → cleared (record_words * slots_of t) t' ≡ cleared (table_words t) t
   unfolding cleared table_words
   cleared_table came = ap (λ (l : List ℕ). replicate (record_words * slots_of t) 0 ++ l) came.behind
 
-  fuller : (b : Bool) → leb (length (states_of fs)) (slots_of t) ≡ b → Started n (slots_of t) ranks fs t s R.Slotless t' s' → slots_of t < length (states_of fs)
+  fuller : (b : Bool) → leb (length (states_of fs)) (slots_of t) ≡ b → Started n (slots_of t) ranks fs t s None t' s' → slots_of t < length (states_of fs)
   unfolding out_of
   fuller true q came =
       absurd (slotted≢slotless (sym (came.comes ∙ ap (λ (c : Bool). cond c (slotted (holding (map written (states_of fs)) (map (record_of (box_of fs) (states_of fs)) (states_of fs)))) slotless) q)))
   fuller false q came = leb-false (length (states_of fs)) (slots_of t) q
 
-  pub built_slotless : (r : Extent) → r ≡ R.Slotless → Started n (slots_of t) ranks fs t s r t' s'
-      → slot_words * slots_of t ≤ length s
+  pub built_slotless : Started n (slots_of t) ranks fs t s None t' s' → slot_words * slots_of t ≤ length s
       → Answered (by_room fs t s) (B.Refused 11 0) (cleared (record_words * slots_of t) t') (cleared (slot_words * slots_of t) s')
   unfolding by_room no_room
-  built_slotless r e came₀ hs =
-      let came : Started n (slots_of t) ranks fs t s R.Slotless t' s' =
-      subst (λ (x : Extent). Started n (slots_of t) ranks fs t s x t' s') e came₀ in
-      let same : by_room fs t s ≡ no_room t s = rw (enough hs, lt-ltb (slots_of t) (length (states_of fs)) (fuller (leb (length (states_of fs)) (slots_of t)) refl came)) in
-      subst (λ (l : Left). Answered l (B.Refused 11 0) (cleared (record_words * slots_of t) t') (cleared (slot_words * slots_of t) s')) (sym same)
-      (record {
-        answer = refl;
-        table = cleared_table came;
-        scratch = cleared_scratch R.Slotless came;
-      })
+  built_slotless came hs =
+      let same : by_room fs t s ≡ no_room t s = rw (enough t s hs, lt-ltb (slots_of t) (length (states_of fs)) (fuller (leb (length (states_of fs)) (slots_of t)) refl came)) in
+      rw same (record { answer = refl; table = cleared_table came; scratch = cleared_scratch None came })
 
 -- The outcome goes by what reading the list comes to.
 -- A number of states is no refusal.

@@ -1,6 +1,6 @@
 -- The start is stored as state 0, and the rest follows from it.
 -- Assumes nothing.
-use Rattle.std.specs.Prelude.{ℕ, ◌*◌, ◌≤◌, ◌<◌, ◌≡◌, List, []}
+use Rattle.std.specs.Prelude.{ℕ, ◌*◌, ◌≤◌, ◌<◌, ◌≡◌, List, [], Option, Some, None}
 use Rattle.std.proofs.Math.Path.{refl, ap, sym}
 use Rattle.std.proofs.Common.{◌∙◌, subst, arith}
 use Rattle.std.proofs.Math.ListN.{get_or}
@@ -21,8 +21,6 @@ use Rattle.automaton.proofs.laws.Telling.{told_none, told_stored}
 use Rattle.builder.specs.inner.Memory.{slot_at, states_in, records_at, memory_of, out_of}
 use Rattle.builder.specs.inner.Promises.{Stored, StatePlaced, Grown, AfterKept}
 use Rattle.builder.specs.inner.Started.{Startable, Started}
-use Rattle.builder.specs.declared.Extent.{Extent}
-use Rattle.builder.specs.declared.Extent.TheVariants as R
 
 all_slotless : (M : Machine) (slots f : ℕ) (s : M.State) → slots ≡ 0 → place_all M slots f s ≡ slotless
 unfolding place_all
@@ -32,7 +30,7 @@ all_started : (M : Machine) (slots f : ℕ) (s : M.State) → 0 < slots → plac
 unfolding place_all
 all_started M slots f s h = rw (lt-leb slots 0 h, place_all)
 
-module _ (n slots : ℕ) (ranks l t s : List ℕ) (able : Startable n slots ranks l t s) where
+module _ {n slots : ℕ} {ranks l t s : List ℕ} (able : Startable n slots ranks l t s) where
   abbrev begin : List ℕ
   begin = start_words n ranks l
 
@@ -48,11 +46,11 @@ module _ (n slots : ℕ) (ranks l t s : List ℕ) (able : Startable n slots rank
       subst (λ (x : List ℕ). place_all (slots_in n x) slots tests (start_words n x l) ≡ whole n x (filters_of l) slots) (sym able.ranked)
       (list_placed l n tests slots able.listing.1)
 
-  pub started_none : slots ≡ 0 → Started n slots ranks (filters_of l) t s R.Slotless t s
+  pub started_none : slots ≡ 0 → Started n slots ranks (filters_of l) t s None t s
   unfolding out_of
   started_none e = record { comes = sym (all_slotless (slots_in n ranks) slots tests begin e) ∙ all_is; grows = tt; after = tt; behind = refl; beyond = refl }
 
-  module _ (some-slot : 0 < slots) (t₁ s₁ : List ℕ) (kept : Stored n slots ranks 0 t s begin t₁ s₁) where
+  module _ (some-slot : 0 < slots) {t₁ s₁ : List ℕ} (kept : Stored n slots ranks 0 t s begin t₁ s₁) where
     slot_is : slot_at n s₁ 0 ≡ begin
     unfolding memory_of states_in stored tally
     slot_is = ap (λ (m : Memory (slots_in n ranks)). get_or m.met 0 []) kept.memory
@@ -79,18 +77,18 @@ module _ (n slots : ℕ) (ranks l t s : List ℕ) (able : Startable n slots rank
         ∙ ap (λ (m : Memory (slots_in n ranks)). place_state (slots_in n ranks) slots tests 0 begin m) memory_is
         ∙ sym (all_started (slots_in n ranks) slots tests begin some-slot)
 
-    grown : (r : Extent) → Grown 1 slots r → Grown 0 slots r
-    grown R.Slotless g = tt
-    grown (R.Used u) g = (omega arith, g.1)
+    grown : (r : Option ℕ) → Grown 1 slots r → Grown 0 slots r
+    grown None g = tt
+    grown (Some u) g = (omega arith, g.1)
 
-    after_all : (r : Extent) (t' : List ℕ) → Grown 1 slots r → AfterKept r t₁ t' → AfterKept r t t'
-    after_all R.Slotless t' g e = tt
-    after_all (R.Used u) t' g e =
+    after_all : (r : Option ℕ) (t' : List ℕ) → Grown 1 slots r → AfterKept r t₁ t' → AfterKept r t t'
+    after_all None t' g e = tt
+    after_all (Some u) t' g e =
         let more = g.0 in
         e ∙ later (record_words * 1) (record_words * u) t₁ t (omega arith) kept.after
 
-    pub started : (r : Extent) (t' s' : List ℕ) → StatePlaced n slots ranks 0 1 t₁ s₁ r t' s' → Started n slots ranks (filters_of l) t s r t' s'
-    started r t' s' p =
+    pub started : {r : Option ℕ} {t' s' : List ℕ} → StatePlaced n slots ranks 0 1 t₁ s₁ r t' s' → Started n slots ranks (filters_of l) t s r t' s'
+    started {r} {t'} p =
         record {
           comes = p.comes tests enough ∙ state_is ∙ all_is;
           grows = grown r p.grows;

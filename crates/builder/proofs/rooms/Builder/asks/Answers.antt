@@ -1,0 +1,7 @@
+-- The first word of the question is not 0 where there is one to ask.
+-- Assumes nothing.
+use Rattle.builder.proofs.Finding.{asked_is}
+use Rattle.builder.proofs.rooms.Builder.asks.Goals as goal
+
+pub returns : goal.returns
+returns c = asked_is _ c.args.at _ _ _ _ _ c.question_of-question.ensures
