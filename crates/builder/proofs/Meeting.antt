@@ -1,13 +1,13 @@
 -- Meeting a candidate: its words in front of a larger run, and what each answer of the search means.
 -- Assumes nothing.
-use Rattle.std.specs.Prelude.{Option, Some, None}
-use Prim.Native.Nat.{ℕ, ◌+◌, ◌*◌, ◌-◌, ◌≤◌, ◌<◌}
-use mathlib.Core.Path.{◌≡◌, refl, sym, ap, ◌∙◌, subst}
-use mathlib.Core.Bool.{Bool, true, false, cond, false≢true}
+use Rattle.std.specs.Prelude.{Some, None}
+use Prim.Native.Nat.{ℕ, ◌+◌, ◌*◌, ◌-◌, ◌≤◌}
+use mathlib.Core.Path.{◌≡◌, refl, sym, ap, ◌∙◌}
+use mathlib.Core.Bool.{Bool, true, false, cond}
 use mathlib.Core.List.{List, ◌++◌}
 use native.Mathlib.Omega.{arith}
 use lib.Arith.{lt_of_le-ne}
-use lib.ListN.{length, take, drop, length-append, length-drop}
+use lib.ListN.{length, take, drop}
 use lib.Seq.{take_at, length-take-le}
 use Rattle.residue.specs.declared.Outcome.{Outcome}
 use Rattle.lists.specs.Filters.{item_of}
@@ -15,7 +15,6 @@ use Rattle.tables.specs.inner.Records.{fresh_by}
 use Rattle.tables.specs.declared.Fresh.{Fresh}
 use Rattle.slots.specs.Words.{filter_slot, slot_words}
 use Rattle.slots.specs.inner.Slots.{question_in, step_question, step_words}
-use Rattle.slots.specs.inner.Steps.{Ranked, Stepped}
 use Rattle.machine.specs.inner.Slots.{slots_in}
 use Rattle.automaton.specs.Machines.{meets, place_of}
 use Rattle.automaton.specs.inner.Placing.{fresh_of}

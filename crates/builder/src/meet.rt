@@ -68,7 +68,10 @@ impl Builder<'_> {
         ensures { result ≡ asks_in self.now.n (state_at self.now at) }
     {
         let from = SLOT_WORDS * at;
-        let question = slots::question_of(&self.scratch[from..from + FILTER_WORDS * self.n], self.n);
+        let question = slots::question_of(
+            &self.scratch[from..from + FILTER_WORDS * self.n],
+            self.n,
+        );
         question.kind != 0
     }
 
@@ -89,11 +92,14 @@ impl Builder<'_> {
         let mut i: usize = 0;
         while i < used {
             let next = tables::agreeing(self.table, i, used, fresh);
-            if used <= next {
+            let none_left = used <= next;
+            if none_left {
                 return None;
             }
             let at = SLOT_WORDS * next;
-            if slots::same(&self.scratch[at..at + width], candidate) {
+            let state = &self.scratch[at..at + width];
+            let is_same = slots::same(state, candidate);
+            if is_same {
                 return Some(next);
             }
             i = next + 1;
@@ -133,7 +139,8 @@ impl Builder<'_> {
         if let Some(number) = self.find(fresh, used) {
             return Some(Met::Old(number));
         }
-        if used == self.slots {
+        let all_used = used == self.slots;
+        if all_used {
             return None;
         }
         self.store(fresh, used);

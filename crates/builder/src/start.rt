@@ -35,7 +35,8 @@ pub fn place_start(
     requires { Startable n slots ranks.now list.now table.old scratch.old }
     ensures { Started n slots ranks.now (filters_of list.now) table.old scratch.old result table.new scratch.new }
 {
-    if slots == 0 {
+    let no_slots = slots == 0;
+    if no_slots {
         return None;
     }
     let mut words = [0u32; SLOT_WORDS];

@@ -10,7 +10,7 @@
 --   Meeting     what meeting the state c leaves, by the answer
 use Rattle.std.specs.Prelude.{ℕ, ◌+◌, ◌*◌, ◌≤◌, ◌<◌, ◌≡◌, true, false, List, length, take, drop, Option, Some, None}
 use Rattle.lists.specs.Filters.{max_filters}
-use Rattle.tables.specs.Tables.{record_words, max_slots}
+use Rattle.tables.specs.Tables.{record_words}
 use Rattle.tables.specs.inner.Records.{agree, fresh_by, record_at}
 use Rattle.tables.specs.declared.Fresh.{Fresh}
 use Rattle.residue.specs.declared.Outcome.{Outcome}

@@ -1,7 +1,7 @@
 -- Building an accepted list: the sizes, and what each end of placing leaves once the scratch has been cleared.
 -- Assumes nothing.
-use Rattle.std.specs.Prelude.{ℕ, ◌*◌, ◌≤◌, ◌<◌, ◌≡◌, List, length, Option, Some, None}
-use Rattle.std.proofs.Common.{sym, subst, arith}
+use Rattle.std.specs.Prelude.{ℕ, ◌*◌, ◌≤◌, ◌≡◌, List, length, Some, None}
+use Rattle.std.proofs.Common.{arith}
 use Rattle.lists.specs.Filters.{Filter, filters_of}
 use Rattle.lists.specs.Refusals.{listed}
 use Rattle.lists.specs.Ranks.{rank_sets}
@@ -10,9 +10,8 @@ use Rattle.words.specs.Lent.{cleared}
 use Rattle.tables.specs.Tables.{record_words, max_slots, slots_of}
 use Rattle.slots.specs.Words.{slot_words}
 use Rattle.builder.specs.Outcome.{by_room, Answered}
-use Rattle.builder.specs.laws.Building.{built_states, built_slotless, answered_short}
+use Rattle.builder.specs.laws.Building.{built_states, built_slotless}
 use Rattle.builder.specs.inner.Started.{Startable, Started}
-use Rattle.builder.specs.inner.Promises.{Grown}
 use Rattle.builder.specs.declared.Built.TheVariants as B
 
 pub slots_tabled : (t : List ℕ) → record_words * slots_of t ≤ length t

@@ -28,7 +28,6 @@ use Rattle.automaton.proofs.laws.MetPlaced.{way_old, way_unslotted, way_new, sta
 use Rattle.builder.specs.inner.Memory.{slot_at, states_in, memory_of, out_of}
 use Rattle.builder.specs.laws.Memory.{slot_kept, records_linked}
 use Rattle.builder.specs.inner.Promises.{Ready, Asking, StatePlaced, WayPlaced, Meeting, Grown, AfterKept}
-use Rattle.builder.specs.declared.Met.{Met}
 use Rattle.builder.specs.declared.Met.TheVariants as M
 
 -- A next number that is put into a record of the table is put into that record of the memory.

@@ -17,11 +17,11 @@ use Rattle.builder.proofs.start.place_start.Goals as goal
 landed : {n slots : ℕ} {ranks : List ℕ} {fs : List Filter} {t s t' s' t'' s'' : List ℕ} {r : Option ℕ} → t'' ≡ t' → s'' ≡ s' → Started n slots ranks fs t s r t' s' → Started n slots ranks fs t s r t'' s''
 landed e q came = rw (e, q) came
 
-pub returns-then-slots-eq0 : goal.returns-then-slots-eq0
-returns-then-slots-eq0 c = S.started_none c.requires c.if-slots-eq0.true
+pub returns-then-no_slots : goal.returns-then-no_slots
+returns-then-no_slots c = S.started_none c.requires c.if-no_slots.true
 
 pub invariant_of-builder : goal.invariant_of-builder
-invariant_of-builder c = 
+invariant_of-builder c =
     let few = (accepted_count _ c.args.n _ c.requires.listing.1).2 in
     let ranked = ap length c.requires.ranked ∙ length_rank_sets _ in
     record { filters = few; ranked = ranked; few = c.requires.few; tabled = c.requires.tabled; scratched = c.requires.scratched; roomy = omega arith }

@@ -13,21 +13,21 @@ use Rattle.builder.proofs.rooms.Builder.find.Goals as goal
 pub loop-i-init : goal.loop-i-init
 loop-i-init c = (omega arith, unmet_none _ _ _)
 
-pub returns-then-used-next : goal.returns-then-used-next
-returns-then-used-next c = let none = unmet_next c.args.self.now c.requires c.loop-i.i _ c.loop-i.invariant.0 c.loop-i.invariant.1 c.agreeing-next.ensures in
-    found_nothing _ _ _ _ _ none.0 c.if-used-next.true none.1 _
+pub returns-then-none_left : goal.returns-then-none_left
+returns-then-none_left c = let none = unmet_next c.args.self.now c.requires c.loop-i.i _ c.loop-i.invariant.0 c.loop-i.invariant.1 c.agreeing-next.ensures in
+    found_nothing _ _ _ _ _ none.0 c.if-none_left.true none.1 _
 
-pub returns-then-same : goal.returns-then-same
-returns-then-same c = let none = unmet_next c.args.self.now c.requires c.loop-i.i _ c.loop-i.invariant.0 c.loop-i.invariant.1 c.agreeing-next.ensures in
-    found_at _ _ _ _ _ c.if-used-next.false none.1
-    (sym c.if-same.true ∙ c.same.ensures ∙ ap (λ (ws : List ℕ). same_words ws (made c.args.self.now)) (slot_part _ _ _)) _
+pub returns-then-is_same : goal.returns-then-is_same
+returns-then-is_same c = let none = unmet_next c.args.self.now c.requires c.loop-i.i _ c.loop-i.invariant.0 c.loop-i.invariant.1 c.agreeing-next.ensures in
+    found_at _ _ _ _ _ c.if-none_left.false none.1
+    (sym c.if-is_same.true ∙ c.same-is_same.ensures ∙ ap (λ (ws : List ℕ). same_words ws (made c.args.self.now)) (slot_part _ _ _)) _
 
 pub loop-i-smaller : goal.loop-i-smaller
 loop-i-smaller c = omega (arith, c.loop-i-test.true, later_next c.args.used c.args.self.now.table.now (fresh_by c.args.fresh) c.loop-i.i c.agreeing-next.result c.agreeing-next.ensures)
 
 pub loop-i-preserved : goal.loop-i-preserved
 loop-i-preserved c = let none = unmet_next c.args.self.now c.requires c.loop-i.i _ c.loop-i.invariant.0 c.loop-i.invariant.1 c.agreeing-next.ensures in
-    (omega arith, unmet_more _ _ _ _ none.1 (sym c.if-same.false ∙ c.same.ensures ∙ ap (λ (ws : List ℕ). same_words ws (made c.args.self.now)) (slot_part _ _ _)))
+    (omega arith, unmet_more _ _ _ _ none.1 (sym c.if-is_same.false ∙ c.same-is_same.ensures ∙ ap (λ (ws : List ℕ). same_words ws (made c.args.self.now)) (slot_part _ _ _)))
 
 pub returns : goal.returns
 returns c = found_nothing _ _ _ _ _ c.loop-i.invariant.0 c.loop-i-test.false c.loop-i.invariant.1 _

@@ -9,11 +9,11 @@ find-requires c = search_asks c.args.self.now c.step.new.self c.args.o c.args.at
 pub returns-in-Some-clause-met : goal.returns-in-Some-clause-met
 returns-in-Some-clause-met c = met_old c.args.self.now c.step.new.self c.args.o c.args.at c.args.used c.step.ensures c.requires _ c.in-Some.ensures
 
-pub returns-then-used-self-clause-met : goal.returns-then-used-self-clause-met
-returns-then-used-self-clause-met c =
-    met_slotless c.args.self.now c.step.new.self c.args.o c.args.at c.args.used c.step.ensures c.requires c.in_default.ensures c.if-used-self.true
+pub returns-then-all_used-clause-met : goal.returns-then-all_used-clause-met
+returns-then-all_used-clause-met c =
+    met_slotless c.args.self.now c.step.new.self c.args.o c.args.at c.args.used c.step.ensures c.requires c.in_default.ensures c.if-all_used.true
 
 pub returns-clause-met : goal.returns-clause-met
 returns-clause-met c =
-    met_new c.args.self.now c.step.new.self c.args.o c.args.at c.args.used c.step.ensures c.requires c.in_default.ensures c.store.new.self c.if-used-self.false
+    met_new c.args.self.now c.step.new.self c.args.o c.args.at c.args.used c.step.ensures c.requires c.in_default.ensures c.store.new.self c.if-all_used.false
     (c.store.ensures.stored c.fresh-fresh.ensures)
