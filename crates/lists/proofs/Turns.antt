@@ -2,9 +2,8 @@
 --   tests_turn, tests_found      the next test has no fault; it has one
 --   list_turn, list_found        the next filter has no fault; it has one
 --   list_over                   a filter follows the last
---   rest_is                     a part that is lent from a place on
-use Rattle.std.specs.Prelude.{ℕ, suc, ◌+◌, ◌-◌, ◌*◌, ◌<◌, ◌≡◌, refl, List, [], ◌∷◌, length, take, drop, Ok, Err}
-use Rattle.std.proofs.Common.{sym, ◌∙◌, not-suc-le-zero, le_refl, arith, length-drop, drop-drop, take_all}
+use Rattle.std.specs.Prelude.{ℕ, suc, ◌+◌, ◌-◌, ◌*◌, ◌<◌, ◌≡◌, List, [], ◌∷◌, length, drop, Ok, Err}
+use Rattle.std.proofs.Common.{sym, ◌∙◌, not-suc-le-zero, arith, drop-drop}
 use Rattle.refusals.specs.declared.Refusal.{Refusal}
 use Rattle.refusals.specs.declared.Refusal.TheVariants.{ManyFilters}
 use Rattle.refusals.specs.Numbers.{refused}
@@ -34,34 +33,23 @@ pub tests_end : (n : ℕ) (ws : List ℕ) → tests_fault (n - n) ws ≡ Ok tt
 unfolding tests_fault
 tests_end n ws = let z : n - n ≡ 0 = omega arith in rw z
 
--- The list from a place on, by its filter's fault.
-list_here : (ws : List ℕ) (at i t : ℕ) (x : Fault) → i < max_filters → at < length ws → filter_fault (drop at ws) ≡ x →
-    listed_from (max_filters - i) i t (drop at ws) ≡ unless_faulty i x (listed_from (max_filters - (i + 1)) (i + 1) (t + count_word (drop at ws)) (drop (at + filter_words (drop at ws)) ws))
-list_here ws at i t x h l e =
+-- The list from some words on, by the first filter's fault.
+list_here : (ws : List ℕ) (i t : ℕ) (x : Fault) → i < max_filters → 0 < length ws → filter_fault ws ≡ x →
+    listed_from (max_filters - i) i t ws ≡ unless_faulty i x (listed_from (max_filters - (i + 1)) (i + 1) (t + count_word ws) (drop (filter_words ws) ws))
+list_here ws i t x h l e =
     let z : max_filters - i ≡ suc (max_filters - (i + 1)) = omega arith in
-    rw z
-    (listed_step (max_filters - (i + 1)) i t (drop at ws) (rw length-drop (omega arith)) ∙
-    rw (e, drop-drop (filter_words (drop at ws)) at ws))
+    rw z (listed_step (max_filters - (i + 1)) i t ws l ∙ rw e)
 
-pub list_turn : (ws : List ℕ) (at i t : ℕ) → i < max_filters → at < length ws → filter_fault (drop at ws) ≡ Ok tt →
-    listed_from (max_filters - i) i t (drop at ws) ≡ listed_from (max_filters - (i + 1)) (i + 1) (t + count_word (drop at ws)) (drop (at + filter_words (drop at ws)) ws)
-list_turn ws at i t h l e = list_here ws at i t (Ok tt) h l e
+pub list_turn : (ws : List ℕ) (i t : ℕ) → i < max_filters → 0 < length ws → filter_fault ws ≡ Ok tt →
+    listed_from (max_filters - i) i t ws ≡ listed_from (max_filters - (i + 1)) (i + 1) (t + count_word ws) (drop (filter_words ws) ws)
+list_turn ws i t h l e = list_here ws i t (Ok tt) h l e
 
-pub list_found : (ws : List ℕ) (at i t : ℕ) (r : Refusal) → i < max_filters → at < length ws → filter_fault (drop at ws) ≡ Err r →
-    listed_from (max_filters - i) i t (drop at ws) ≡ Err (refused r i)
-list_found ws at i t r h l e = list_here ws at i t (Err r) h l e
+pub list_found : (ws : List ℕ) (i t : ℕ) (r : Refusal) → i < max_filters → 0 < length ws → filter_fault ws ≡ Err r →
+    listed_from (max_filters - i) i t ws ≡ Err (refused r i)
+list_found ws i t r h l e = list_here ws i t (Err r) h l e
 
 -- No filter may follow the last.
-listed_full : (i t : ℕ) (ws : List ℕ) → 0 < length ws → listed_from 0 i t ws ≡ Err (refused ManyFilters i)
+pub list_over : (ws : List ℕ) (i t : ℕ) → i ≡ max_filters → 0 < length ws → listed_from (max_filters - i) i t ws ≡ Err (refused ManyFilters i)
 unfolding listed_from
-listed_full i t [] l = absurd (not-suc-le-zero l)
-listed_full i t (w ∷ ws) l = refl
-
-pub list_over : (ws : List ℕ) (at i t : ℕ) → i ≡ max_filters → at < length ws → listed_from (max_filters - i) i t (drop at ws) ≡ Err (refused ManyFilters i)
-list_over ws at i t h l =
-    let z : max_filters - i ≡ 0 = omega arith in
-    rw z (listed_full i t (drop at ws) (rw length-drop (omega arith)))
-
--- A part that is lent from a place on is the rest of the words.
-pub rest_is : (n : ℕ) (ws : List ℕ) → take (length ws - n) (drop n ws) ≡ drop n ws
-rest_is n ws = take_all (length ws - n) (drop n ws) (rw length-drop (le_refl (length ws - n)))
+list_over [] i t h l = absurd (not-suc-le-zero l)
+list_over (w ∷ ws) i t h l = let z : max_filters - i ≡ 0 = omega arith in rw z

@@ -1,3 +1,4 @@
 pub mod Well
 pub mod Columns
 pub mod Moved
+pub mod Walk

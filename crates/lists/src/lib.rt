@@ -8,6 +8,8 @@ ghost use Rattle.lists.specs.Words.{words_of};
 ghost use Rattle.lists.specs.Refusals.{masked, test_fault, tests_fault, filter_fault, listed};
 ghost use Rattle.lists.specs.Ranks.{rank_sets};
 ghost use Rattle.lists.specs.inner.Columns.{rank_of, no_rank, Heads, above_by, rank_set_by};
+ghost use Rattle.std.specs.Iterator.{at_most};
+ghost use Rattle.lists.specs.inner.Walk.{GivesFilter};
 
 use refusals::{Refusal, Refused};
 use residue::Test;
@@ -230,44 +232,62 @@ fn check_filter(words: &[u32]) -> Result<(), Refusal>
     check_tests(&words[HEAD_WORDS..], count)
 }
 
+// The filters of a list, one after the other: each as the words from its first one on. A filter that is cut is the last.
+#[derive(Clone, Copy, Drop)]
+pub struct Filters<'a>(pub &'a [u32]);
+
+impl<'a> Iterator for Filters<'a> {
+    type Item = &'a [u32];
+
+    ghost next_gives = { GivesFilter };
+
+    ghost remaining = { λ s. at_most (length s.0.now) };
+
+    fn next(&mut self) -> Option<&'a [u32]> {
+        let words = self.0;
+        if words.is_empty() {
+            return None;
+        }
+        let behind = filter_words(count_at(words, 0));
+        self.0 = &words[behind.min(words.len())..];
+        Some(words)
+    }
+}
+
 // Reads the whole list: how many filters and tests it has, or its first fault and the filter that has it.
 pub fn check(list: &[u32]) -> Result<Counts, Refused<u32>>
     ensures { result ≡ listed list.now }
 {
-    let mut at: usize = 0;
     let mut filters: u32 = 0;
     let mut tests: u32 = 0;
-    while at < list.len() {
+    for words in Filters(list) {
         if filters == FILTERS {
             return Err(Refused {
                 refusal: Refusal::ManyFilters,
                 place: filters,
             });
         }
-        if let Err(refusal) = check_filter(&list[at..]) {
+        if let Err(refusal) = check_filter(words) {
             return Err(Refused {
                 refusal,
                 place: filters,
             });
         }
-        let count = count_at(list, at);
-        at += filter_words(count);
-        tests += count;
+        tests += count_at(words, 0);
         filters += 1;
     }
     Ok(Counts { filters, tests })
 }
 
 impl Rank {
-    // The rank of the filter that begins at a place.
+    // The rank of the filter that the words begin with.
     #[tactic(auto, unfolding(crate::specs::Filters::filter_of))]
-    fn at(list: &[u32], at: usize) -> Rank
-        requires { at ≤ length list.now }
-        ensures { result ≡ rank_of (filter_of (drop at list.now)) }
+    fn of(words: &[u32]) -> Rank
+        ensures { result ≡ rank_of (filter_of words.now) }
     {
         Rank {
-            group: word_at(list, at),
-            level: word_at(list, at + LEVEL_AT),
+            group: word_at(words, 0),
+            level: word_at(words, LEVEL_AT),
         }
     }
 }
@@ -276,11 +296,9 @@ impl Rank {
 pub fn heads(list: &[u32], ranks: &mut [Rank; MAX_FILTERS]) -> usize
     ensures { Heads (filters_of list.now) result ranks.new }
 {
-    let mut at: usize = 0;
     let mut n: usize = 0;
-    while (n < MAX_FILTERS) & (at < list.len()) {
-        ranks[n] = Rank::at(list, at);
-        at += filter_words(count_at(list, at));
+    for words in Filters(list).take(MAX_FILTERS) {
+        ranks[n] = Rank::of(words);
         n += 1;
     }
     n

@@ -1,15 +1,21 @@
-use Rattle.std.proofs.Common.{length}
-use Rattle.lists.proofs.Columns.{partway_start, partway_turn, partway_end, goes_on}
+use Rattle.std.proofs.Common.{arith}
+use Rattle.lists.proofs.Columns.{partway_start, partway_turn, partway_end}
 use Rattle.lists.proofs.heads.Goals as goal
 
-pub loop-n-init : goal.loop-n-init
-loop-n-init c = partway_start c.args.list.now c.args.ranks.now c.told-ranks
+pub loop-words-init : goal.loop-words-init
+loop-words-init c =
+    rw (c.into_iter-words-iterator.ensures.into_iter_gives, c.take-words-items.ensures.source)
+    (omega (arith, c.take-words-items.ensures.count), partway_start c.args.list.now c.args.ranks.now c.told-ranks)
 
-pub loop-n-preserved : goal.loop-n-preserved
-loop-n-preserved c =
-    let o = goes_on c.loop-n.n c.loop-n.at (length c.args.list.now) c.loop-n-test.true in
-    rw (c.filter_words-at.ensures, c.count_at.ensures)
-    (partway_turn c.args.list.now c.loop-n.ranks c.loop-n.at c.loop-n.n c.at.result o.0 o.1 c.at.ensures c.loop-n.invariant)
+pub loop-words-preserved : goal.loop-words-preserved
+loop-words-preserved c =
+    let s = c.in-Some.ensures.steps in (
+      omega (arith, s.1, c.loop-words.invariant.0),
+      rw s.0.2
+          (partway_turn c.args.list.now _ c.loop-words.ranks c.loop-words.n c.of.result (omega (arith, s.1, c.loop-words.invariant.0)) s.0.0 (rw s.0.1 at c.of.ensures) c.loop-words.invariant.1),
+    )
 
 pub returns : goal.returns
-returns c = partway_end c.args.list.now c.loop-n.ranks c.loop-n.at c.loop-n.n c.loop-n-test.false c.loop-n.invariant
+returns c =
+    let e = c.loop-words.invariant.0 in
+    partway_end c.args.list.now _ c.loop-words.ranks c.loop-words.n (λ h. c.in-None.ensures.steps (omega (arith, e))) (omega (arith, e)) c.loop-words.invariant.1

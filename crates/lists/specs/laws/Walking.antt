@@ -2,12 +2,15 @@
 --   listed_step, listed_end         the check from one place on: one filter, the end
 --   filters_step, filters_none      the filters from one place on
 --   accepted_head, accepted_rest, accepted_last   one filter off an accepted list
---   At ws n i at      the words ws are an accepted list of n filters, and filter i begins at the place at, or the list ends there
+--   Rest ws n i r     the words ws are an accepted list of n filters, and the words r are what is left of it from filter i on
+--   rest_start, rest_next, rest_end   a loop over an accepted list: its start, its turn, its end
+--   rest_below, rest_sound            while words are left a filter follows, and it has no fault
+--   rest_filter                       the filters that are left: the one that the words begin with, and the rest
+--   At ws n i at      the same by the place at which filter i begins, or the list ends
 --   Here ws at        a filter begins there: its words are in the list, and its tests are few
---   at_start, at_next, at_end       a loop over an accepted list: its start, its turn, its end
---   at_here, at_rest                what the loop may read, and the filters that it still has before it
+--   at_start, at_next, at_end, at_here, at_rest   the same laws by places
 use Rattle.std.specs.Prelude.{ℕ, zero, suc, ◌+◌, ◌-◌, ◌≤◌, ◌<◌, ◌≡◌, refl, List, [], ◌∷◌, length, drop, Ok, Err}
-use Rattle.std.proofs.Common.{not-suc-le-zero, arith, sym, ap, ap₂, ◌∙◌, length-drop, drop-drop}
+use Rattle.std.proofs.Common.{not-suc-le-zero, zero-lt-suc, arith, sym, ap, ◌∙◌, length-drop, drop-drop}
 use Rattle.lists.specs.declared.Counts.{Counts}
 use Rattle.lists.specs.Filters.{max_filters, max_tests, head_words, count_word, filter_words, Filter, filter_of, filters_from, filters_of}
 use Rattle.refusals.specs.declared.Refusal.TheVariants.{ManyFilters}
@@ -75,12 +78,11 @@ record Next (m i t a b : ℕ) (ws : List ℕ) : Type 0 where
   later : listed_from (m - 1) (i + 1) (t + count_word ws) (drop (filter_words ws) ws) ≡ Ok (counts a b)
   filters : filters_from m ws ≡ filter_of ws ∷ filters_from (m - 1) (drop (filter_words ws) ws)
 
--- While filters are still to come, one begins here.
-accepted_on : (m i t a b : ℕ) (ws : List ℕ) → listed_from m i t ws ≡ Ok (counts a b) → i < a → Next m i t a b ws
-accepted_on m i t a b [] e h = absurd (omega (arith, (accepted_one i t a b (sym (listed_end m i t) ∙ e)).0))
-accepted_on zero i t a b (w ∷ ws) e h = absurd (accepted_last i t a b w ws e)
-accepted_on (suc m) i t a b (w ∷ ws) e h =
-    let l : 0 < length (w ∷ ws) = omega arith in
+-- While there are words, a filter begins with them.
+accepted_on : (m i t a b : ℕ) (ws : List ℕ) → listed_from m i t ws ≡ Ok (counts a b) → 0 < length ws → Next m i t a b ws
+accepted_on m i t a b [] e l = absurd (not-suc-le-zero l)
+accepted_on zero i t a b (w ∷ ws) e l = absurd (accepted_last i t a b w ws e)
+accepted_on (suc m) i t a b (w ∷ ws) e l =
     let z : m ≡ suc m - 1 = omega arith in
     record {
       sound = accepted_head m i t a b (w ∷ ws) l e;
@@ -88,75 +90,109 @@ accepted_on (suc m) i t a b (w ∷ ws) e h =
       filters = filters_step m (w ∷ ws) l ∙ ap (λ (x : ℕ). filter_of (w ∷ ws) ∷ filters_from x (drop (filter_words (w ∷ ws)) (w ∷ ws))) z;
     }
 
+-- Where the words end, all filters have come.
+accepted_done : (m i t a b : ℕ) → listed_from m i t [] ≡ Ok (counts a b) → i ≡ a
+accepted_done m i t a b e = (accepted_one i t a b (sym (listed_end m i t) ∙ e)).0
+
 accepted_le : (m i t a b : ℕ) (ws : List ℕ) → listed_from m i t ws ≡ Ok (counts a b) → i ≤ a
-accepted_le zero i t a b [] e = omega (arith, (accepted_one i t a b (sym (listed_end zero i t) ∙ e)).0)
+accepted_le m i t a b [] e = omega (arith, accepted_done m i t a b e)
 accepted_le zero i t a b (w ∷ ws) e = absurd (accepted_last i t a b w ws e)
-accepted_le (suc m) i t a b [] e = omega (arith, (accepted_one i t a b (sym (listed_end (suc m) i t) ∙ e)).0)
 accepted_le (suc m) i t a b (w ∷ ws) e =
     let r = accepted_rest m i t a b (w ∷ ws) (omega arith) e in
     omega (arith, accepted_le m (i + 1) (t + count_word (w ∷ ws)) a b (drop (filter_words (w ∷ ws)) (w ∷ ws)) r)
 
--- Where all have come, none follows.
-accepted_stop : (m i t a b : ℕ) (ws : List ℕ) → listed_from m i t ws ≡ Ok (counts a b) → a ≤ i → filters_from m ws ≡ []
-accepted_stop m i t a b [] e h = filters_none m
-accepted_stop zero i t a b (w ∷ ws) e h = absurd (accepted_last i t a b w ws e)
-accepted_stop (suc m) i t a b (w ∷ ws) e h =
-    let r = accepted_rest m i t a b (w ∷ ws) (omega arith) e in
-    absurd (omega (arith, accepted_le m (i + 1) (t + count_word (w ∷ ws)) a b (drop (filter_words (w ∷ ws)) (w ∷ ws)) r))
+pub record Rest (ws : List ℕ) (n i : ℕ) (r : List ℕ) : Type 0 where
+  pub accepted : (t : ℕ) × (b : ℕ) × (listed_from (max_filters - i) i t r ≡ Ok (counts n b))
+  pub filters : filters_from (max_filters - i) r ≡ drop i (filters_of ws)
+
+pub rest_start : (ws : List ℕ) (n t : ℕ) → listed ws ≡ Ok (counts n t) → Rest ws n 0 ws
+unfolding listed filters_of
+rest_start ws n t e = record { accepted = (0, t, e); filters = refl }
+
+module _ (ws : List ℕ) (n i : ℕ) (r : List ℕ) (here : Rest ws n i r) where
+  module _ (l : 0 < length r) where
+    next : Next (max_filters - i) i here.accepted.0 n here.accepted.1 r
+    next = accepted_on (max_filters - i) i here.accepted.0 n here.accepted.1 r here.accepted.2 l
+
+    pub rest_sound : NoFault r
+    rest_sound = next.sound
+
+    pub rest_below : i < n
+    rest_below =
+        omega (arith, accepted_le (max_filters - i - 1) (i + 1) (here.accepted.0 + count_word r) n here.accepted.1 (drop (filter_words r) r) next.later)
+
+    less : max_filters - i - 1 ≡ max_filters - (i + 1)
+    less = omega arith
+
+    others : filters_from (max_filters - (i + 1)) (drop (filter_words r) r) ≡ drop (i + 1) (filters_of ws)
+    others =
+        ap (λ (m : ℕ). filters_from m (drop (filter_words r) r)) (sym less) ∙
+        sym (ap (drop 1) next.filters) ∙ ap (drop 1) here.filters ∙ drop-drop 1 i (filters_of ws)
+
+    pub rest_next : Rest ws n (i + 1) (drop (filter_words r) r)
+    rest_next =
+        record {
+          accepted = (
+            here.accepted.0 + count_word r,
+            here.accepted.1,
+            ap (λ (m : ℕ). listed_from m (i + 1) (here.accepted.0 + count_word r) (drop (filter_words r) r)) (sym less) ∙ next.later,
+          );
+          filters = others;
+        }
+
+    pub rest_filter : drop i (filters_of ws) ≡ filter_of r ∷ drop (i + 1) (filters_of ws)
+    rest_filter =
+        sym here.filters ∙ next.filters ∙
+        ap (λ (fs : List Filter). filter_of r ∷ fs) (ap (λ (m : ℕ). filters_from m (drop (filter_words r) r)) less ∙ others)
+
+  pub rest_end : r ≡ [] → (i ≡ n) × (drop i (filters_of ws) ≡ [])
+  rest_end e = (
+    accepted_done (max_filters - i) i here.accepted.0 n here.accepted.1 (ap (listed_from (max_filters - i) i here.accepted.0) (sym e) ∙ here.accepted.2),
+    sym here.filters ∙ ap (filters_from (max_filters - i)) e ∙ filters_none (max_filters - i),
+  )
+
+  -- While filters are still to come, there are words.
+  rest_words : i < n → 0 < length r
+  rest_words h = go r refl
+    where
+      go : (xs : List ℕ) → r ≡ xs → 0 < length xs
+      go [] e = absurd (omega (arith, (rest_end e).0))
+      go (w ∷ xs) e = zero-lt-suc (length xs)
+
+-- ---- by places
 
 pub record Here (ws : List ℕ) (at : ℕ) : Type 0 where
   pub head : at + head_words ≤ length ws
   pub count : count_word (drop at ws) ≤ max_tests
   pub whole : at + filter_words (drop at ws) ≤ length ws
 
--- A filter without a fault, of which the words from a place on begin with one.
-pub sound_here : (ws : List ℕ) (at : ℕ) → NoFault (drop at ws) → Here ws at
-sound_here ws at s =
-    let l = length-drop at ws in
-    record { head = omega (arith, l, s.head); count = s.count; whole = omega (arith, l, s.head, s.whole) }
-
-pub record At (ws : List ℕ) (n i at : ℕ) : Type 0 where
-  pub accepted : (t : ℕ) × (b : ℕ) × (listed_from (max_filters - i) i t (drop at ws) ≡ Ok (counts n b))
-  pub rest : filters_from (max_filters - i) (drop at ws) ≡ drop i (filters_of ws)
+abbrev pub At : (ws : List ℕ) (n i at : ℕ) → Type 0
+At ws n i at = Rest ws n i (drop at ws)
 
 pub at_start : (ws : List ℕ) (n t : ℕ) → listed ws ≡ Ok (counts n t) → At ws n 0 0
-unfolding listed filters_of
-at_start ws n t e = record { accepted = (0, t, e); rest = refl }
+at_start ws n t e = rest_start ws n t e
 
 module _ (ws : List ℕ) (n i at : ℕ) (here : At ws n i at) (h : i < n) where
-  next : Next (max_filters - i) i here.accepted.0 n here.accepted.1 (drop at ws)
-  next = accepted_on (max_filters - i) i here.accepted.0 n here.accepted.1 (drop at ws) here.accepted.2 h
+  words : 0 < length (drop at ws)
+  words = rest_words ws n i (drop at ws) here h
 
   pub at_here : Here ws at
-  at_here = sound_here ws at next.sound
-
-  less : max_filters - i - 1 ≡ max_filters - (i + 1)
-  less = omega arith
-
-  behind : drop (filter_words (drop at ws)) (drop at ws) ≡ drop (at + filter_words (drop at ws)) ws
-  behind = drop-drop (filter_words (drop at ws)) at ws
-
-  others : filters_from (max_filters - (i + 1)) (drop (at + filter_words (drop at ws)) ws) ≡ drop (i + 1) (filters_of ws)
-  others =
-      ap₂ filters_from (sym less) (sym behind) ∙
-      sym (ap (drop 1) next.filters) ∙ ap (drop 1) here.rest ∙ drop-drop 1 i (filters_of ws)
+  at_here =
+      let s = rest_sound ws n i (drop at ws) here words in
+      let l = length-drop at ws in
+      record { head = omega (arith, l, s.head); count = s.count; whole = omega (arith, l, s.head, s.whole) }
 
   pub at_next : At ws n (i + 1) (at + filter_words (drop at ws))
-  at_next =
-      record {
-        accepted = (
-          here.accepted.0 + count_word (drop at ws),
-          here.accepted.1,
-          ap₂ (λ (m : ℕ) (xs : List ℕ). listed_from m (i + 1) (here.accepted.0 + count_word (drop at ws)) xs) (sym less) (sym behind) ∙ next.later,
-        );
-        rest = others;
-      }
+  at_next = rw (← drop-drop (filter_words (drop at ws)) at ws) (rest_next ws n i (drop at ws) here words)
 
   pub at_rest : drop i (filters_of ws) ≡ filter_of (drop at ws) ∷ drop (i + 1) (filters_of ws)
-  at_rest =
-      sym here.rest ∙ next.filters ∙
-      ap (λ (fs : List Filter). filter_of (drop at ws) ∷ fs) (ap₂ filters_from less behind ∙ others)
+  at_rest = rest_filter ws n i (drop at ws) here words
 
 pub at_end : (ws : List ℕ) (n i at : ℕ) → At ws n i at → n ≤ i → drop i (filters_of ws) ≡ []
-at_end ws n i at here l =
-    sym here.rest ∙ accepted_stop (max_filters - i) i here.accepted.0 n here.accepted.1 (drop at ws) here.accepted.2 l
+at_end ws n i at here l = go (drop at ws) refl
+  where
+    go : (xs : List ℕ) → drop at ws ≡ xs → drop i (filters_of ws) ≡ []
+    go [] e = (rest_end ws n i (drop at ws) here e).1
+    go (w ∷ xs) e =
+        let m : 0 < length (drop at ws) = rw e (zero-lt-suc (length xs)) in
+        absurd (omega (arith, rest_below ws n i (drop at ws) here m))
