@@ -1,22 +1,23 @@
 // A capture (a classic libpcap file) is replayed through a list, part after part: where the parts end does not matter (change request P10).
 #![tactic(auto)]
 
-ghost use Rattle.std.specs.Prelude.{◌≡◌, cond, ◌++◌, ℕ, ◌+◌, ◌-◌, ◌≤◌, ◌<◌, length, take, drop};
-ghost use Rattle.std.proofs.Math.Seq.{paste};
-ghost use Rattle.lists.specs.Filters.{max_filters, filters_of};
+ghost use Rattle.std.specs.Prelude.{◌≡◌, cond, ◌++◌, ℕ, ◌+◌, ◌-◌, ◌≤◌, ◌<◌, List, length, take, drop, Ok};
+ghost use Rattle.lists.specs.Filters.{max_filters, Filter, filters_of};
 ghost use Rattle.lists.specs.Refusals.{listed};
-ghost use Rattle.lists.specs.declared.Listed.TheVariants.{Accepted};
 ghost use Rattle.text.specs.Text.{words_of};
-ghost use Rattle.captures.specs.Files.{file_header, record_header, spelt, word_of, begins};
-ghost use Rattle.captures.specs.Replay.{next_count, tally_room, count_up, count_set, counted};
-ghost use Rattle.captures.specs.Parts.{paused, ran, went_on, WentOn, ending, begun_with, begun_by};
-ghost use Rattle.captures.specs.inner.Steps.{gone, opened, Went, Skipped};
-ghost use Rattle.captures.specs.declared.Stand.TheVariants.{Within};
+ghost use Rattle.captures.specs.Files.{file_header, record_header, word_of, begins};
+ghost use Rattle.captures.specs.Replay.{next_count, tally_room, last_tallies, count_up, count_set, counted};
+ghost use Rattle.captures.specs.Parts.{amid, paused, ran, went_on, WentOn, ending, begun_by};
+ghost use Rattle.captures.specs.inner.Steps.{gone, opened, Skipped, Went, fitted};
+ghost use Rattle.captures.specs.declared.Stand.TheVariants.{Start, Within};
+ghost use Rattle.refusals.specs.Numbers.{refused};
+ghost use Rattle.refusals.specs.declared.Refusal.TheVariants.{CutRecord};
 
 use fields::MAX_FRAME;
-use lists::Listed;
+use lists::Counts;
+use refusals::{Refusal, Refused};
 use sets::Set;
-use text::Read;
+use text::MAX_ITEMS;
 
 // The bytes of the file's header and of a record's, and where the link type and the two lengths stand in them.
 const FILE_HEADER: usize = 24;
@@ -49,23 +50,35 @@ const LONG: usize = 3;
 // So many tallies in all stand behind those of the filters.
 pub const LAST_TALLIES: usize = 4;
 
-// A count that stays as it is.
-const MOST_COUNT: u64 = 18446744073709551615;
-
-// What a list's text comes to: so many words, and so many tallies for its filters and behind them; or a refusal's number with the filter's number.
-#[derive(Clone, Copy)]
-pub enum Begun {
-    Ready(usize, usize),
-    Refused(u32, u32),
+// The order in which the bytes of a file's numbers stand: the highest first, or last.
+#[derive(Clone, Copy, Debug, PartialEq, Eq)]
+pub enum Order {
+    Big,
+    Little,
 }
 
-// Where a replay stands: before the file's header; within the records, in a byte order, with so many bytes to skip of the record
-// that was counted last, and so many records begun; or at a refusal's number with the record's or filter's number.
-#[derive(Clone, Copy)]
+// What the text of an accepted list comes to: so many words, and so many tallies for its filters and behind them.
+#[derive(Clone, Copy, Debug, PartialEq, Eq)]
+pub struct Ready {
+    pub words: usize,
+    pub tallies: usize,
+}
+
+// A place within the records: the order of the file's numbers, so many bytes to skip of the record that was counted last,
+// and so many records begun.
+#[derive(Clone, Copy, Debug, PartialEq, Eq)]
+pub struct Reading {
+    pub order: Order,
+    pub left: u32,
+    pub number: u64,
+}
+
+// Where a replay stands: before the file's header, within the records, or at a refusal.
+#[derive(Clone, Copy, Debug, PartialEq, Eq)]
 pub enum Stand {
     Start,
-    Within(bool, u32, u64),
-    Refusing(u32, u64),
+    Within(Reading),
+    Refusing(Refused<u64>),
 }
 
 // So many bytes are taken, and where the replay stands behind them.
@@ -76,66 +89,76 @@ struct Gone {
 }
 
 // Where a replay stands, and how many bytes at the front of the buffer wait for more.
-#[derive(Clone, Copy)]
+#[derive(Clone, Copy, Debug, PartialEq, Eq)]
 pub struct Pause {
     pub stand: Stand,
     pub held: usize,
 }
 
-// What a capture comes to: so many records counted, or a refusal's number with the record's number.
-#[derive(Clone, Copy)]
-pub enum Replayed {
-    Counted(u64),
-    Refused(u32, u64),
-}
-
-// The number in four bytes, highest first.
-fn spell(a: u8, b: u8, c: u8, d: u8) -> u32
-    ensures { result ≡ spelt a b c d }
-{
-    (a as u32) * 16777216 + (b as u32) * 65536 + (c as u32) * 256 + (d as u32)
+// A list that was accepted, what checking it answered, and as many tallies as it takes.
+#[derive(Drop)]
+struct Counting<'a> {
+    list: &'a [u32],
+    checked: Counts,
+    counts: &'a mut [u64],
+    ghost accepted: { listed list.now ≡ Ok checked },
+    ghost room: { length counts.now ≡ tally_room checked.filters },
 }
 
 // The number at a place, in a byte order.
-fn word_at(s: &[u8], at: usize, big: bool) -> u32
+#[tactic(auto, unfolding(crate::specs::Files::word_of, crate::specs::Files::spelt))]
+fn word_at(s: &[u8], at: usize, order: Order) -> u32
     requires { at + 4 ≤ length s.now }
-    ensures { result ≡ word_of big s.now at }
+    ensures { result ≡ word_of order s.now at }
 {
-    if big {
-        return spell(s[at], s[at + 1], s[at + 2], s[at + 3]);
+    let bytes = [s[at], s[at + 1], s[at + 2], s[at + 3]];
+    match order {
+        Order::Big => u32::from_be_bytes(bytes),
+        Order::Little => u32::from_le_bytes(bytes),
     }
-    spell(s[at + 3], s[at + 2], s[at + 1], s[at])
 }
 
 // Whether the bytes begin as a file of that order does.
-fn begins_so(s: &[u8], big: bool) -> bool
+#[tactic(auto, unfolding(crate::specs::Files::begins, crate::specs::Files::is_magic))]
+fn begins_so(s: &[u8], order: Order) -> bool
     requires { file_header ≤ length s.now }
-    ensures { result ≡ begins big s.now }
+    ensures { result ≡ begins order s.now }
 {
-    let magic = word_at(s, 0, big);
-    (magic == MICROSECONDS) | (magic == NANOSECONDS)
+    let magic = word_at(s, 0, order);
+    magic == MICROSECONDS || magic == NANOSECONDS
 }
 
-// Reads the file's header. Its version is not looked at.
-fn open_file(s: &[u8]) -> Stand
+// Where a replay stands behind the file's header. Its version is not looked at.
+#[tactic(auto, unfolding(crate::specs::inner::Steps::opened, crate::specs::Files::linked, crate::specs::Files::order_of))]
+fn opened(s: &[u8]) -> Stand
     requires { file_header ≤ length s.now }
     ensures { result ≡ opened s.now }
 {
-    let big = begins_so(s, true);
-    let little = begins_so(s, false);
-    let link = word_at(s, LINK_AT, big);
-    if (big | little) & (link == ETHERNET) {
-        return Stand::Within(big, 0, 0);
+    let order = if begins_so(s, Order::Big) {
+        Order::Big
+    } else {
+        Order::Little
+    };
+    if begins_so(s, order) && word_at(s, LINK_AT, order) == ETHERNET {
+        return Stand::Within(Reading {
+            order,
+            left: 0,
+            number: 0,
+        });
     }
-    Stand::Refusing(17, 0)
+    Stand::Refusing(Refusal::Capture.into())
 }
 
+// A count goes up by one; the greatest stays as it is.
+#[tactic(auto, unfolding(crate::specs::Replay::next_count))]
 fn next_count(x: u64) -> u64
     ensures { result ≡ next_count x }
 {
-    if x < MOST_COUNT { x + 1 } else { MOST_COUNT }
+    x.saturating_add(1)
 }
 
+// Counts up the tally at a place.
+#[tactic(auto, unfolding(crate::specs::Replay::count_up))]
 fn count_up(counts: &mut [u64], i: usize)
     requires { i < length counts.old }
     ensures { counts.new ≡ count_up i counts.old }
@@ -143,223 +166,210 @@ fn count_up(counts: &mut [u64], i: usize)
     counts[i] = next_count(counts[i]);
 }
 
-fn count_if(counts: &mut [u64], i: usize, b: bool)
-    requires { i < length counts.old }
-    ensures { counts.new ≡ cond b (count_up i counts.old) counts.old }
-{
-    if b {
-        count_up(counts, i);
-    }
-}
-
 // Counts each of the first n filters that is in a set.
+#[tactic(auto, using(crate::specs::laws::Tallies::set_turn), unfolding(crate::specs::Replay::count_set))]
 fn count_set(counts: &mut [u64], n: usize, set: Set)
     requires n_in_bounds { n ≤ length counts.old }
     requires few { n ≤ max_filters }
     ensures { counts.new ≡ count_set n set counts.old }
 {
-    let mut i: usize = 0;
-    while i < n {
-        count_if(counts, i, sets::has(set, i as u32));
-        i += 1;
-    }
-}
-
-// Counts a frame that was matched.
-fn count_frame(counts: &mut [u64], n: usize, set: Set)
-    requires room { length counts.old ≡ tally_room n }
-    requires few { n ≤ max_filters }
-    ensures { counts.new ≡ counted n set counts.old }
-{
-    count_set(counts, n, set);
-    if set == 0 {
-        count_up(counts, n + UNMATCHED);
-        return;
-    }
-    count_up(counts, n);
-}
-
-// Passes what is left of a record that was counted.
-fn skip(big: bool, left: u32, number: u64, s: &[u8]) -> Gone
-    ensures { Skipped big left number s.now result }
-{
-    if s.len() < left as usize {
-        return Gone {
-            taken: s.len(),
-            stand: Stand::Within(big, left - s.len() as u32, number),
-        };
-    }
-    Gone {
-        taken: left as usize,
-        stand: Stand::Within(big, 0, number),
-    }
-}
-
-// A record waits for more bytes.
-fn wait(big: bool, number: u64) -> Gone
-    ensures { result ≡ gone 0 (Within big 0 number) }
-{
-    Gone {
-        taken: 0,
-        stand: Stand::Within(big, 0, number),
-    }
-}
-
-// Counts a record by its header alone. What was captured of it is left to skip.
-fn pass(big: bool, captured: u32, number: u64, place: usize, counts: &mut [u64]) -> Gone
-    requires { place < length counts.old }
-    ensures { (result ≡ gone record_header (Within big captured (next_count number))) × (counts.new ≡ count_up place counts.old) }
-{
-    count_up(counts, place);
-    let next = next_count(number);
-    Gone {
-        taken: RECORD_HEADER,
-        stand: Stand::Within(big, captured, next),
-    }
-}
-
-// A record's header, and its frame if it is to be matched.
-fn record(list: &[u32], n: usize, big: bool, number: u64, s: &[u8], counts: &mut [u64]) -> Gone
-    requires accepted { (t : ℕ) × (listed list.now ≡ Accepted n t) }
-    requires room { length counts.old ≡ tally_room n }
-    ensures { Went (filters_of list.now) (Within big 0 number) counts.old s.now result counts.new }
-{
-    if s.len() < RECORD_HEADER {
-        return wait(big, number);
-    }
-    let captured = word_at(s, CAPTURED_AT, big);
-    let original = word_at(s, ORIGINAL_AT, big);
-    let is_short = captured < original;
-    if is_short {
-        return pass(big, captured, number, n + SHORT, counts);
-    }
-    if LONGEST < captured {
-        return pass(big, captured, number, n + LONG, counts);
-    }
-    let end = RECORD_HEADER + captured as usize;
-    if s.len() < end {
-        return wait(big, number);
-    }
-    let set = scanner::scan_accepted(list, n, &s[RECORD_HEADER..end], 0);
-    count_frame(counts, n, set);
-    let next = next_count(number);
-    Gone {
-        taken: end,
-        stand: Stand::Within(big, 0, next),
-    }
-}
-
-// Goes on by one header, one record or one run of skipped bytes; takes nothing where more bytes are needed.
-fn step(list: &[u32], n: usize, stand: Stand, s: &[u8], counts: &mut [u64]) -> Gone
-    requires accepted { (t : ℕ) × (listed list.now ≡ Accepted n t) }
-    requires room { length counts.old ≡ tally_room n }
-    ensures { Went (filters_of list.now) stand counts.old s.now result counts.new }
-{
-    match stand {
-        Stand::Start => {
-            if s.len() < FILE_HEADER {
-                return Gone {
-                    taken: 0,
-                    stand: Stand::Start,
-                };
-            }
-            let next = open_file(s);
-            Gone {
-                taken: FILE_HEADER,
-                stand: next,
-            }
+    for i in 0..n {
+        if sets::has(set, i as u32) {
+            count_up(counts, i);
         }
-        Stand::Within(big, left, number) => {
-            if left == 0 {
-                return record(list, n, big, number, s, counts);
-            }
-            skip(big, left, number, s)
+    }
+}
+
+// Takes the file's header; none where more bytes are needed.
+fn open_file(s: &[u8]) -> Option<Gone>
+    ensures { (fs : List Filter) (ts : List ℕ) → Went fs Start ts s.now result ts }
+{
+    if s.len() < FILE_HEADER {
+        return None;
+    }
+    Some(Gone {
+        taken: FILE_HEADER,
+        stand: opened(s),
+    })
+}
+
+impl Reading {
+    // Where a replay stands behind one more record, of which so many bytes are left to skip.
+    fn behind(self, left: u32) -> Stand
+        ensures { result ≡ amid self.order left (next_count self.number) }
+    {
+        Stand::Within(Reading {
+            order: self.order,
+            left,
+            number: next_count(self.number),
+        })
+    }
+
+    // Passes what is left of a record that was counted, or as much of it as there is.
+    fn skip(self, s: &[u8]) -> Gone
+        requires left { 0 < self.left }
+        requires some { 0 < length s.now }
+        ensures { Skipped self s.now result }
+    {
+        let taken = s.len().min(self.left as usize);
+        let left = self.left - taken as u32;
+        Gone {
+            taken,
+            stand: Stand::Within(Reading { left, ..self }),
         }
-        Stand::Refusing(number, at) => Gone {
-            taken: s.len(),
-            stand: Stand::Refusing(number, at),
-        },
     }
 }
 
-// Goes on as far as the bytes reach.
-fn run(list: &[u32], n: usize, stand: Stand, s: &[u8], counts: &mut [u64]) -> Gone
-    requires accepted { (t : ℕ) × (listed list.now ≡ Accepted n t) }
-    requires room { length counts.old ≡ tally_room n }
-    ensures taken_in_bounds { result.taken ≤ length s.now }
-    ensures stands { ran (filters_of list.now) stand counts.old s.now ≡ paused result.stand counts.new (drop result.taken s.now) }
-{
-    let mut at: usize = 0;
-    let mut here = stand;
-    loop {
-        let next = step(list, n, here, &s[at..], counts);
-        here = next.stand;
-        if next.taken == 0 {
-            return Gone {
-                taken: at,
-                stand: here,
-            };
+impl Counting<'_> {
+    ghost use Rattle.captures.specs.inner.Kept.{Kept};
+
+    // How many filters the list has.
+    fn filters(&self) -> usize
+        ensures value { result ≡ self.now.checked.filters }
+        ensures few { result ≤ max_filters }
+    {
+        self.checked.filters as usize
+    }
+
+    // Counts a frame that was matched.
+    #[tactic(auto, unfolding(crate::specs::Replay::counted))]
+    fn count_frame(&mut self, set: Set)
+        ensures kept { Kept self.old self.new }
+        ensures counts { self.new.counts.now ≡ counted self.old.checked.filters set self.old.counts.now }
+    {
+        let n = self.filters();
+        count_set(self.counts, n, set);
+        let place = if set == sets::EMPTY { n + UNMATCHED } else { n };
+        count_up(self.counts, place);
+    }
+
+    // Counts a record by its header alone, at so many tallies behind those of the filters. What was captured of it is left to skip.
+    fn pass(&mut self, reading: Reading, captured: u32, place: usize) -> Gone
+        requires { place < last_tallies }
+        ensures kept { Kept self.old self.new }
+        ensures counts { self.new.counts.now ≡ count_up (self.old.checked.filters + place) self.old.counts.now }
+        ensures gone { result ≡ gone record_header (amid reading.order captured (next_count reading.number)) }
+    {
+        let n = self.filters();
+        count_up(self.counts, n + place);
+        Gone {
+            taken: RECORD_HEADER,
+            stand: reading.behind(captured),
         }
-        at += next.taken;
     }
-}
 
-// Moves the bytes from a place up to an end to the front; there are so many. The bytes behind them stay as they are.
-fn keep(s: &mut [u8], from: usize, end: usize) -> usize
-    requires { (from ≤ end) × (end ≤ length s.old) }
-    ensures { (result ≡ end - from) × (s.new ≡ paste s.old 0 (drop from s.old) (end - from)) }
-{
-    let n = end - from;
-    let mut i: usize = 0;
-    while i < n {
-        s[i] = s[from + i];
-        i += 1;
+    // A record's header, and its frame if it is to be matched; none where more bytes are needed.
+    #[tactic(auto, using(crate::proofs::Goings::waiting))]
+    fn record(&mut self, reading: Reading, s: &[u8]) -> Option<Gone>
+        requires { reading.left ≡ 0 }
+        ensures kept { Kept self.old self.new }
+        ensures went { Went (filters_of self.old.list.now) (Within reading) self.old.counts.now s.now result self.new.counts.now }
+    {
+        if s.len() < RECORD_HEADER {
+            return None;
+        }
+        let captured = word_at(s, CAPTURED_AT, reading.order);
+        let original = word_at(s, ORIGINAL_AT, reading.order);
+        let is_short = captured < original;
+        if is_short {
+            return Some(self.pass(reading, captured, SHORT));
+        }
+        let is_long = LONGEST < captured;
+        if is_long {
+            return Some(self.pass(reading, captured, LONG));
+        }
+        let end = RECORD_HEADER + captured as usize;
+        if s.len() < end {
+            return None;
+        }
+        let n = self.filters();
+        let set = scanner::scan_accepted(self.list, n, &s[RECORD_HEADER..end], 0);
+        self.count_frame(set);
+        Some(Gone {
+            taken: end,
+            stand: reading.behind(0),
+        })
     }
-    n
-}
 
-// Goes on with the bytes of the buffer up to an end, by a list that was checked.
-fn advance(
-    list: &[u32],
-    n: usize,
-    stand: Stand,
-    buffer: &mut [u8],
-    end: usize,
-    counts: &mut [u64],
-) -> Pause
-    requires accepted { (t : ℕ) × (listed list.now ≡ Accepted n t) }
-    requires room { length counts.old ≡ tally_room n }
-    requires end_in_bounds { end ≤ length buffer.old }
-    ensures { WentOn (ran (filters_of list.now) stand counts.old (take end buffer.old)) buffer.old result buffer.new counts.new }
-{
-    let gone = run(list, n, stand, &buffer[..end], counts);
-    let next = gone.stand;
-    let taken = gone.taken;
-    let held = keep(buffer, taken, end);
-    Pause {
-        stand: next,
-        held: held,
+    // Goes on by one header, one record or one run of skipped bytes; none where more bytes are needed.
+    fn step(&mut self, stand: Stand, s: &[u8]) -> Option<Gone>
+        ensures kept { Kept self.old self.new }
+        ensures went { Went (filters_of self.old.list.now) stand self.old.counts.now s.now result self.new.counts.now }
+    {
+        if s.is_empty() {
+            return None;
+        }
+        match stand {
+            Stand::Start => open_file(s),
+            Stand::Within(reading) if reading.left == 0 => self.record(reading, s),
+            Stand::Within(reading) => Some(reading.skip(s)),
+            Stand::Refusing(_) => Some(Gone {
+                taken: s.len(),
+                stand,
+            }),
+        }
+    }
+
+    // Goes on as far as the bytes reach.
+    fn run(&mut self, stand: Stand, s: &[u8]) -> Gone
+        ensures kept { Kept self.old self.new }
+        ensures within { result.taken ≤ length s.now }
+        ensures stands { ran (filters_of self.old.list.now) stand self.old.counts.now s.now ≡ paused result.stand self.new.counts.now (drop result.taken s.now) }
+    {
+        let mut taken = 0;
+        let mut here = stand;
+        while let Some(gone) = self.step(here, &s[taken..]) {
+            taken += gone.taken;
+            here = gone.stand;
+        }
+        Gone { taken, stand: here }
+    }
+
+    // Goes on with the bytes of the buffer up to an end. Those that wait for more come to its front.
+    fn advance(&mut self, stand: Stand, buffer: &mut [u8], end: usize) -> Pause
+        requires { end ≤ length buffer.old }
+        ensures kept { Kept self.old self.new }
+        ensures went { WentOn (ran (filters_of self.old.list.now) stand self.old.counts.now (take end buffer.old)) buffer.old result buffer.new self.new.counts.now }
+    {
+        let gone = self.run(stand, &buffer[..end]);
+        buffer.copy_within(gone.taken..end, 0);
+        Pause {
+            stand: gone.stand,
+            held: end - gone.taken,
+        }
     }
 }
 
 // Reads a list's text into the words, and checks it. The words behind them stay as they are.
-pub fn begin(text: &[u8], words: &mut [u32; 8192]) -> Begun
+#[tactic(auto, using(text::specs::laws::Reading::reads_fit))]
+pub fn begin(text: &[u8], words: &mut [u32; MAX_ITEMS]) -> Result<Ready, Refused<u32>>
     ensures { (result ≡ begun_by text.now) × (words.new ≡ words_of text.now ++ drop (length (words_of text.now)) words.old) }
 {
-    match text::read_words(text, words) {
-        Read::Words(count) => begin_list(words, count),
-        Read::Refused => Begun::Refused(14, 0),
-    }
+    let count = text::read_words(text, words)?;
+    let list = &words[..count];
+    let checked = lists::check(list)?;
+    Ok(Ready {
+        words: count,
+        tallies: checked.filters as usize + LAST_TALLIES,
+    })
 }
 
-// The list that the first words are.
-fn begin_list(words: &[u32], count: usize) -> Begun
-    requires { count ≤ length words.now }
-    ensures { result ≡ begun_with (listed (take count words.now)) count }
+// Checks a list, and that there are as many tallies as it takes.
+#[tactic(auto, unfolding(crate::specs::inner::Steps::fitted))]
+fn check_fit(list: &[u32], tallies: usize) -> Result<Counts, Refused<u64>>
+    ensures { result ≡ fitted list.now tallies }
 {
-    match lists::check(&words[..count]) {
-        Listed::Refused(number, filter) => Begun::Refused(number, filter),
-        Listed::Accepted(n, _) => Begun::Ready(count, n as usize + LAST_TALLIES),
+    match lists::check(list) {
+        Err(Refused { refusal, place }) => Err(Refused {
+            refusal,
+            place: u64::from(place),
+        }),
+        Ok(checked) => {
+            if tallies != checked.filters as usize + LAST_TALLIES {
+                return Err(Refusal::Tallies.into());
+            }
+            Ok(checked)
+        }
     }
 }
 
@@ -375,42 +385,50 @@ pub fn go_on(
 ) -> Pause
     ensures { WentOn (went_on list.now stand counts.old (take held buffer.old)) buffer.old result buffer.new counts.new }
 {
-    match lists::check(list) {
-        Listed::Refused(number, filter) => Pause {
-            stand: Stand::Refusing(number, filter as u64),
+    match check_fit(list, counts.len()) {
+        Ok(checked) => {
+            let end = held.min(buffer.len());
+            let mut counting = Counting {
+                list,
+                checked,
+                counts,
+            };
+            counting.advance(stand, buffer, end)
+        }
+        Err(refused) => Pause {
+            stand: Stand::Refusing(refused),
             held: 0,
         },
-        Listed::Accepted(n, _) => {
-            if counts.len() != n as usize + LAST_TALLIES {
-                return Pause {
-                    stand: Stand::Refusing(24, 0),
-                    held: 0,
-                };
-            }
-            if buffer.len() < held {
-                return advance(list, n as usize, stand, buffer, buffer.len(), counts);
-            }
-            advance(list, n as usize, stand, buffer, held, counts)
-        }
     }
 }
 
-// The answer at the end of the file, where so many bytes wait.
-pub fn finish(stand: Stand, held: usize) -> Replayed
+// The answer at the end of the file, where so many bytes wait: so many records, or a refusal with the record's number.
+#[tactic(auto, unfolding(crate::specs::Parts::ending))]
+pub fn finish(stand: Stand, held: usize) -> Result<u64, Refused<u64>>
     ensures { result ≡ ending stand held }
 {
     match stand {
-        Stand::Start => Replayed::Refused(17, 0),
-        Stand::Within(_, left, number) => {
-            let next = next_count(number);
-            if left != 0 {
-                return Replayed::Refused(18, number);
+        Stand::Start => Err(Refusal::Capture.into()),
+        Stand::Within(reading) => {
+            let number = reading.number;
+            if reading.left != 0 {
+                return Err(cut_at(number));
             }
             if held != 0 {
-                return Replayed::Refused(18, next);
+                return Err(cut_at(next_count(number)));
             }
-            Replayed::Counted(number)
+            Ok(number)
         }
-        Stand::Refusing(number, at) => Replayed::Refused(number, at),
+        Stand::Refusing(refused) => Err(refused),
+    }
+}
+
+// The end of the file cuts the record that is named.
+fn cut_at(place: u64) -> Refused<u64>
+    ensures { result ≡ refused CutRecord place }
+{
+    Refused {
+        refusal: Refusal::CutRecord,
+        place,
     }
 }

@@ -1,9 +1,9 @@
--- `captures::open_file` meets its contract: the truths it has are those of the definition. Assumes nothing.
-use Rattle.captures.proofs.Standing.{opened_by}
+-- `captures::open_file` meets its contract: the header is there, or it waits. Assumes nothing.
+use Rattle.captures.proofs.Goings.{went_start, went_open}
 use Rattle.captures.proofs.open_file.Goals as goal
 
-pub returns-then-big-little : goal.returns-then-big-little
-returns-then-big-little c = opened_by _ _ _ _ _ c.begins_so-big.ensures c.begins_so-little.ensures c.word_at-link.ensures c.if-big-little.true
+pub returns-then-s-lt-FILE_HEADER : goal.returns-then-s-lt-FILE_HEADER
+returns-then-s-lt-FILE_HEADER c = λ fs ts. went_start fs ts _ c.if-s-lt-FILE_HEADER.true
 
 pub returns : goal.returns
-returns c = opened_by _ _ _ _ _ c.begins_so-big.ensures c.begins_so-little.ensures c.word_at-link.ensures c.if-big-little.false
+returns c = λ fs ts. went_open fs ts _ _ c.opened.ensures c.if-s-lt-FILE_HEADER.false

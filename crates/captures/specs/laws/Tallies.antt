@@ -1,11 +1,9 @@
 -- Counting: what a turn of the loop over the filters does, that the number of tallies stays, and that the last four add up.
 -- Assumes nothing.
 use Prim.Native.Nat.{ℕ, zero, suc, ◌+◌, ◌≤◌, ◌<◌}
-use Rattle.std.specs.Prelude.{◌≡◌, Bool, false, cond, ltb, eqb, drop, replicate}
+use Rattle.std.specs.Prelude.{◌≡◌, cond, ltb, eqb, drop, replicate, Ok, Err}
 use Rattle.std.proofs.Math.Path.{refl, ap}
 use Rattle.std.proofs.Common.{◌∙◌, add-one, arith, lt-ltb, length-set, get_or-set_same, get_or-set_other}
-use Rattle.std.proofs.Math.Bool.{true}
-use Rattle.std.proofs.lemmas.Bool.{false≢true}
 use mathlib.Core.List.{List, [], ◌∷◌}
 use Rattle.std.proofs.Math.ListN.{length, get_or}
 use Rattle.std.proofs.lemmas.List.{length-replicate, get_or-replicate}
@@ -14,10 +12,12 @@ use Rattle.sets.specs.Sets.{member}
 use Rattle.fields.specs.Fields.{field}
 use Rattle.lists.specs.Filters.{Filter}
 use Rattle.lists.specs.Ranks.{match_set}
-use Rattle.captures.specs.Files.{file_header, begins, headed, record_bytes, cut, frame_of}
+use Rattle.refusals.specs.Numbers.{refused, unplaced}
+use Rattle.refusals.specs.declared.Refusal.TheVariants.{Capture, CutRecord}
+use Rattle.refusals.specs.declared.Refused.{Refused}
+use Rattle.captures.specs.Files.{file_header, order_of, headed, record_bytes, cut, frame_of}
 use Rattle.captures.specs.Replay.{most_count, next_count, matched_at, unmatched_at, short_at, long_at, tally_room, last_four, count_up, count_set, counted, short, long, tallied, Replay, replay_of, records_from, records, replayed}
-use Rattle.captures.specs.declared.Replayed.{Replayed}
-use Rattle.captures.specs.declared.Replayed.TheVariants.{Counted, Refused}
+use Rattle.captures.specs.declared.Order.{Order}
 
 pub up_long : (i : ℕ) (ts : List ℕ) → length (count_up i ts) ≡ length ts
 unfolding count_up
@@ -51,47 +51,22 @@ module _ (s : ℕ) (ts : List ℕ) where
       (λ _. set_behind n j (omega arith))
 
 module _ (n : ℕ) (ts : List ℕ) (room : length ts ≡ tally_room n) (few : last_four n ts < most_count) where
-  -- One of four is counted up.
-  one_up : (p q r s : ℕ) → p < length ts → get_or ts p 0 < most_count → (q ≡ p → ⊥) → (r ≡ p → ⊥) → (s ≡ p → ⊥) →
-      get_or (count_up p ts) p 0 + get_or (count_up p ts) q 0 + get_or (count_up p ts) r 0 + get_or (count_up p ts) s 0 ≡ get_or ts p 0 + get_or ts q 0 + get_or ts r 0 + get_or ts s 0 + 1
-  one_up p q r s h l a b c = omega (arith, up_there p ts h l, up_other p q ts a, up_other p r ts b, up_other p s ts c)
-
   up_matched : last_four n (count_up (matched_at n) ts) ≡ last_four n ts + 1
-  up_matched =
-      one_up n (n + 1) (n + 2) (n + 3) (omega (arith, room)) (omega (arith, few))
-      (λ (q : n + 1 ≡ n). omega (arith, q)) (λ (q : n + 2 ≡ n). omega (arith, q)) (λ (q : n + 3 ≡ n). omega (arith, q))
+  up_matched = grind (arith, up_there, up_other)
 
   up_unmatched : last_four n (count_up (unmatched_at n) ts) ≡ last_four n ts + 1
-  up_unmatched =
-      let e = one_up (n + 1) n (n + 2) (n + 3) (omega (arith, room)) (omega (arith, few))
-      (λ (q : n ≡ n + 1). omega (arith, q)) (λ (q : n + 2 ≡ n + 1). omega (arith, q)) (λ (q : n + 3 ≡ n + 1). omega (arith, q)) in
-      omega (arith, e)
+  up_unmatched = grind (arith, up_there, up_other)
 
   up_short : last_four n (count_up (short_at n) ts) ≡ last_four n ts + 1
-  up_short =
-      let e = one_up (n + 2) n (n + 1) (n + 3) (omega (arith, room)) (omega (arith, few))
-      (λ (q : n ≡ n + 2). omega (arith, q)) (λ (q : n + 1 ≡ n + 2). omega (arith, q)) (λ (q : n + 3 ≡ n + 2). omega (arith, q)) in
-      omega (arith, e)
+  up_short = grind (arith, up_there, up_other)
 
   up_long_frame : last_four n (count_up (long_at n) ts) ≡ last_four n ts + 1
-  up_long_frame =
-      let e = one_up (n + 3) n (n + 1) (n + 2) (omega (arith, room)) (omega (arith, few))
-      (λ (q : n ≡ n + 3). omega (arith, q)) (λ (q : n + 1 ≡ n + 3). omega (arith, q)) (λ (q : n + 2 ≡ n + 3). omega (arith, q)) in
-      omega (arith, e)
+  up_long_frame = grind (arith, up_there, up_other)
 
 -- The tallies of the filters are others.
 set_four : (n s : ℕ) (ts : List ℕ) → last_four n (count_set n s ts) ≡ last_four n ts
 set_four n s ts =
     omega (arith, set_behind s ts n n (omega arith), set_behind s ts n (n + 1) (omega arith), set_behind s ts n (n + 2) (omega arith), set_behind s ts n (n + 3) (omega arith))
-
--- What tells the answers apart.
-unfoldable counted_in : Replayed → ℕ
-counted_in (Counted k) = k
-counted_in (Refused r k) = 0
-
-unfoldable is_counted : Replayed → Bool
-is_counted (Counted k) = true
-is_counted (Refused r k) = false
 
 -- A record is counted once among the last four.
 module _ (fs : List Filter) where
@@ -109,21 +84,21 @@ module _ (fs : List Filter) where
       (λ _. up_unmatched n us room' few' ∙ ap (λ (x : ℕ). x + 1) same)
       (λ _. up_matched n us room' few' ∙ ap (λ (x : ℕ). x + 1) same)
 
-  tallied_four : (big : Bool) (s ts : List ℕ) → length ts ≡ tally_room n → last_four n ts < most_count → last_four n (tallied fs big s ts) ≡ last_four n ts + 1
+  tallied_four : (o : Order) (s ts : List ℕ) → length ts ≡ tally_room n → last_four n ts < most_count → last_four n (tallied fs o s ts) ≡ last_four n ts + 1
   unfolding tallied
-  tallied_four big s ts room few =
-      by_cond (λ (us : List ℕ). last_four n us ≡ last_four n ts + 1) (short big s) (λ _. up_short n ts room few)
+  tallied_four o s ts room few =
+      by_cond (λ (us : List ℕ). last_four n us ≡ last_four n ts + 1) (short o s) (λ _. up_short n ts room few)
       (λ _.
-      by_cond (λ (us : List ℕ). last_four n us ≡ last_four n ts + 1) (long big s) (λ _. up_long_frame n ts room few)
-      (λ _. counted_four (match_set fs (field (frame_of big s) 0)) ts room few))
+      by_cond (λ (us : List ℕ). last_four n us ≡ last_four n ts + 1) (long o s) (λ _. up_long_frame n ts room few)
+      (λ _. counted_four (match_set fs (field (frame_of o s) 0)) ts room few))
 
-  pub tallied_long : (big : Bool) (s ts : List ℕ) → length (tallied fs big s ts) ≡ length ts
+  pub tallied_long : (o : Order) (s ts : List ℕ) → length (tallied fs o s ts) ≡ length ts
   unfolding tallied counted
-  tallied_long big s ts =
-      by_cond (λ (us : List ℕ). length us ≡ length ts) (short big s) (λ _. up_long (short_at n) ts)
+  tallied_long o s ts =
+      by_cond (λ (us : List ℕ). length us ≡ length ts) (short o s) (λ _. up_long (short_at n) ts)
       (λ _.
-      by_cond (λ (us : List ℕ). length us ≡ length ts) (long big s) (λ _. up_long (long_at n) ts)
-      (λ _. up_long _ _ ∙ set_long (match_set fs (field (frame_of big s) 0)) ts n))
+      by_cond (λ (us : List ℕ). length us ≡ length ts) (long o s) (λ _. up_long (long_at n) ts)
+      (λ _. up_long _ _ ∙ set_long (match_set fs (field (frame_of o s) 0)) ts n))
 
   -- What is counted so far adds up, as long as the count of the records has not come to its end.
   abbrev AddsUp : ℕ → List ℕ → Type 0
@@ -133,33 +108,33 @@ module _ (fs : List Filter) where
   unfolding next_count
   more_less k = by_cond (λ (x : ℕ). x < most_count → k + 1 ≡ x) (ltb k most_count) (λ _ _. refl) (λ _ h. absurd (omega (arith, h)))
 
-  next_adds_up : (big : Bool) (k : ℕ) (s ts : List ℕ) → AddsUp k ts → AddsUp (next_count k) (tallied fs big s ts)
-  next_adds_up big k s ts a = (
-    tallied_long big s ts ∙ a.0,
+  next_adds_up : (o : Order) (k : ℕ) (s ts : List ℕ) → AddsUp k ts → AddsUp (next_count k) (tallied fs o s ts)
+  next_adds_up o k s ts a = (
+    tallied_long o s ts ∙ a.0,
     λ h.
         let e = more_less k h in
         let so : last_four n ts ≡ k = a.1 (omega (arith, e, h)) in
-        tallied_four big s ts a.0 (omega (arith, e, h, so)) ∙ ap (λ (x : ℕ). x + 1) so ∙ e,
+        tallied_four o s ts a.0 (omega (arith, e, h, so)) ∙ ap (λ (x : ℕ). x + 1) so ∙ e,
   )
 
   abbrev Sums : Replay → Type 0
-  Sums x = (k : ℕ) → x.answer ≡ Counted k → k < most_count → last_four n x.counts ≡ k
+  Sums x = (k : ℕ) → x.answer ≡ Ok k → k < most_count → last_four n x.counts ≡ k
 
-  counted_sums : (k : ℕ) (ts : List ℕ) → AddsUp k ts → Sums (replay_of (Counted k) ts)
-  unfolding replay_of counted_in
-  counted_sums k ts a j e h = let same : k ≡ j = ap counted_in e in a.1 (omega (arith, same, h)) ∙ same
+  counted_sums : (k : ℕ) (ts : List ℕ) → AddsUp k ts → Sums (replay_of (Ok k) ts)
+  unfolding replay_of
+  counted_sums k ts a j e h = let same : k ≡ j = cc in a.1 (omega (arith, same, h)) ∙ same
 
-  refused_sums : (r k : ℕ) (ts : List ℕ) → Sums (replay_of (Refused r k) ts)
-  unfolding replay_of is_counted
-  refused_sums r k ts j e h = absurd (false≢true (ap is_counted e))
+  refused_sums : (r : Refused ℕ) (ts : List ℕ) → Sums (replay_of (Err r) ts)
+  unfolding replay_of
+  refused_sums r ts j e h = cc
 
-  records_sum : (m : ℕ) (big : Bool) (k : ℕ) (ts s : List ℕ) → AddsUp k ts → Sums (records_from m fs big k ts s)
+  records_sum : (m : ℕ) (o : Order) (k : ℕ) (ts s : List ℕ) → AddsUp k ts → Sums (records_from m fs o k ts s)
   unfolding records_from
-  records_sum zero big k ts s a = counted_sums k ts a
-  records_sum (suc m) big k ts [] a = counted_sums k ts a
-  records_sum (suc m) big k ts (b ∷ s) a =
-      by_cond Sums (cut big (b ∷ s)) (λ _. refused_sums 18 (next_count k) ts)
-      (λ _. records_sum m big (next_count k) (tallied fs big (b ∷ s) ts) (drop (record_bytes big (b ∷ s)) (b ∷ s)) (next_adds_up big k (b ∷ s) ts a))
+  records_sum zero o k ts s a = counted_sums k ts a
+  records_sum (suc m) o k ts [] a = counted_sums k ts a
+  records_sum (suc m) o k ts (b ∷ s) a =
+      by_cond Sums (cut o (b ∷ s)) (λ _. refused_sums (refused CutRecord (next_count k)) ts)
+      (λ _. records_sum m o (next_count k) (tallied fs o (b ∷ s) ts) (drop (record_bytes o (b ∷ s)) (b ∷ s)) (next_adds_up o k (b ∷ s) ts a))
 
   abbrev zeros : List ℕ
   zeros = replicate (tally_room n) 0
@@ -177,4 +152,4 @@ module _ (fs : List Filter) where
   pub adds_up : (s : List ℕ) → Sums (replayed fs s)
   unfolding replayed records
   adds_up s =
-      by_cond Sums (headed s) (λ _. records_sum (length (drop file_header s)) (begins true s) 0 zeros (drop file_header s) none_yet) (λ _. refused_sums 17 0 [])
+      by_cond Sums (headed s) (λ _. records_sum (length (drop file_header s)) (order_of s) 0 zeros (drop file_header s) none_yet) (λ _. refused_sums (unplaced Capture) [])

@@ -8,11 +8,10 @@
 --   ready_fit     a list that is ready has its text's words, and no more tallies than there may be
 -- Assumes nothing.
 use Prim.Native.Nat.{ℕ, zero, suc, ◌+◌, ◌-◌, ◌≤◌, ◌<◌}
-use Rattle.std.specs.Prelude.{◌≡◌, Bool, cond, ◌||◌, ltb, leb, replicate}
+use Rattle.std.specs.Prelude.{◌≡◌, Bool, cond, ◌||◌, ltb, leb, replicate, Result, Ok, Err}
 use Rattle.std.proofs.Math.Path.{refl, sym, ap, ap₂}
 use Rattle.std.proofs.Common.{◌∙◌}
 use Rattle.std.proofs.Math.Bool.{true, false}
-use Rattle.std.proofs.lemmas.Bool.{false≢true}
 use mathlib.Core.List.{List, [], ◌∷◌, ◌++◌, append-nil, append_assoc}
 use native.Mathlib.Omega.{arith}
 use borrow.Author.Tests.{ltb-true, ltb-false, lt-ltb, le-ltb, leb-true, le-leb, lt-leb, eq-eqb, ne_eqb}
@@ -22,111 +21,111 @@ use Rattle.std.proofs.Math.Seq.{drop-append_seam}
 use Rattle.residue.specs.laws.Choice.{by_test, by_cond, first, second, neither}
 use Rattle.fields.specs.Ethernet.{max_frame}
 use Rattle.lists.specs.Filters.{max_filters, Filter, filters_of}
-use Rattle.lists.specs.Refusals.{listed}
+use Rattle.lists.specs.Refusals.{Listed, listed}
 use Rattle.lists.specs.laws.Accepted.{accepted_count}
-use Rattle.lists.specs.declared.Listed.{Listed}
-use Rattle.lists.specs.declared.Listed.TheVariants as L
-use Rattle.lists.specs.declared.Listed.TheVariants.{Accepted}
+use Rattle.lists.specs.declared.Counts.{Counts}
+use Rattle.refusals.specs.Numbers.{refused, unplaced}
+use Rattle.refusals.specs.declared.Refusal.TheVariants.{Capture, CutRecord}
+use Rattle.refusals.specs.declared.Refused.{Refused}
 use Rattle.text.specs.Text.{text_refusal, readable, words_of}
-use Rattle.captures.specs.Files.{file_header, record_header, begins, linked, headed, captured, record_bytes, cut}
+use Rattle.captures.specs.Files.{file_header, record_header, order_of, linked, headed, captured, record_bytes, cut}
 use Rattle.captures.specs.Replay.{next_count, short, long, tallied, tally_room, replay_of, records_from, records, replayed, replayed_by, text_replayed}
-use Rattle.captures.specs.Parts.{Paused, paused, passes, halted, records_to, within, ran, went_on_by, went_on, ending, begun_with, begun_by, fed, finished, played_by, played, joined}
+use Rattle.captures.specs.Parts.{amid, Paused, paused, passes, halted, records_to, within, ran, went_on_by, went_on, ending, begun_with, begun_by, fed, finished, played_by, played, joined}
 use Rattle.captures.specs.inner.Steps.{opened}
 use Rattle.captures.specs.laws.Words.{opened_within, captured_within, passes_within, tallied_header, tallied_whole}
 use Rattle.captures.specs.laws.Tallies.{tallied_long}
 use Rattle.captures.specs.laws.Turns.{passes_so, cut_not, stays, turn, within_none, skip_part, open_turn, passed_turn, refusing_turn}
 use Rattle.captures.specs.declared.Stand.{Stand}
 use Rattle.captures.specs.declared.Stand.TheVariants.{Start, Within, Refusing}
-use Rattle.captures.specs.declared.Replayed.TheVariants.{Counted, Refused}
-use Rattle.captures.specs.declared.Begun.{Begun}
-use Rattle.captures.specs.declared.Begun.TheVariants as B
+use Rattle.captures.specs.declared.Order.{Order}
+use Rattle.captures.specs.declared.Ready.{Ready}
 
 -- A record that passes has its header there, and is short or long.
-passes_there : (big : Bool) (s : List ℕ) → passes big s ≡ true → record_header ≤ length s
+passes_there : (o : Order) (s : List ℕ) → passes o s ≡ true → record_header ≤ length s
 unfolding passes
-passes_there big s e = leb-true record_header (length s) (first (leb record_header (length s)) (short big s || long big s) e)
+passes_there o s e = leb-true record_header (length s) (first (leb record_header (length s)) (short o s || long o s) e)
 
-passes_why : (big : Bool) (s : List ℕ) → passes big s ≡ true → (short big s || long big s) ≡ true
+passes_why : (o : Order) (s : List ℕ) → passes o s ≡ true → (short o s || long o s) ≡ true
 unfolding passes
-passes_why big s e = second (leb record_header (length s)) (short big s || long big s) e
+passes_why o s e = second (leb record_header (length s)) (short o s || long o s) e
 
-cut_true : (big : Bool) (s : List ℕ) → cut big s ≡ true → length s < record_bytes big s
+cut_true : (o : Order) (s : List ℕ) → cut o s ≡ true → length s < record_bytes o s
 unfolding cut
-cut_true big s e = ltb-true (length s) (record_bytes big s) e
+cut_true o s e = ltb-true (length s) (record_bytes o s) e
 
-cut_false : (big : Bool) (s : List ℕ) → cut big s ≡ false → record_bytes big s ≤ length s
+cut_false : (o : Order) (s : List ℕ) → cut o s ≡ false → record_bytes o s ≤ length s
 unfolding cut
-cut_false big s e = ltb-false (length s) (record_bytes big s) e
+cut_false o s e = ltb-false (length s) (record_bytes o s) e
 
 module _ (fs : List Filter) where
   abbrev onward : Paused → List ℕ → Paused
   onward p later = ran fs p.stand p.counts (p.rest ++ later)
 
-  abbrev all : Bool → ℕ → List ℕ → List ℕ → Paused
-  all big k ts s = records_to (length s) fs big k ts s
+  abbrev all : Order → ℕ → List ℕ → List ℕ → Paused
+  all o k ts s = records_to (length s) fs o k ts s
 
-  module _ (big : Bool) (k : ℕ) (ts s later : List ℕ) where
-    waits_on : all big k ts (s ++ later) ≡ onward (paused (Within big 0 k) ts s) later
+  module _ (o : Order) (k : ℕ) (ts s later : List ℕ) where
+    waits_on : all o k ts (s ++ later) ≡ onward (paused (amid o 0 k) ts s) later
     unfolding ran
-    waits_on = sym (within_none fs big k ts (s ++ later))
+    waits_on = sym (within_none fs o k ts (s ++ later))
 
-    passes_on : cut big s ≡ true → passes big s ≡ true →
-        all big k ts (s ++ later) ≡ onward (paused (Within big (record_bytes big s - length s) (next_count k)) (tallied fs big s ts) []) later
+    passes_on : cut o s ≡ true → passes o s ≡ true →
+        all o k ts (s ++ later) ≡ onward (paused (amid o (record_bytes o s - length s) (next_count k)) (tallied fs o s ts) []) later
     unfolding ran
     passes_on c e =
-        let h = passes_there big s e in
+        let h = passes_there o s e in
         let long-now : length (s ++ later) ≡ length s + length later = length-append s later in
-        let less = cut_true big s c in
-        rw (captured_within s later big h, tallied_header s later big h fs ts (passes_why big s e)) at
-        (passed_turn fs big k ts (s ++ later) (passes_within s later big h ∙ e))
-        ∙ skip_part fs big (record_bytes big s) (next_count k) (length s) (tallied fs big s ts) (s ++ later) (omega (arith, less)) (omega (arith, long-now))
-        ∙ ap (λ (r : List ℕ). within fs big (record_bytes big s - length s) (next_count k) (tallied fs big s ts) r) (drop-append_seam s later)
+        let less = cut_true o s c in
+        rw (captured_within s later o h, tallied_header s later o h fs ts (passes_why o s e)) at
+        (passed_turn fs o k ts (s ++ later) (passes_within s later o h ∙ e))
+        ∙ skip_part fs o (record_bytes o s) (next_count k) (length s) (tallied fs o s ts) (s ++ later) (omega (arith, less)) (omega (arith, long-now))
+        ∙ ap (λ (r : List ℕ). within fs o (record_bytes o s - length s) (next_count k) (tallied fs o s ts) r) (drop-append_seam s later)
 
-    frame_on : cut big s ≡ false →
-        all big k ts (s ++ later) ≡ all big (next_count k) (tallied fs big s ts) (drop (record_bytes big s) s ++ later)
+    frame_on : cut o s ≡ false →
+        all o k ts (s ++ later) ≡ all o (next_count k) (tallied fs o s ts) (drop (record_bytes o s) s ++ later)
     frame_on c =
-        let h = cut_false big s c in
+        let h = cut_false o s c in
         let head : record_header ≤ length s = omega (arith, h) in
         let long-now : length (s ++ later) ≡ length s + length later = length-append s later in
-        let same = captured_within s later big head in
-        turn fs big k ts (s ++ later)
-        ∙ rw (cut_not big (s ++ later) (omega (arith, long-now, same, h)), same, tallied_whole s later big head fs ts h, drop-append-le (record_bytes big s) s later h)
+        let same = captured_within s later o head in
+        turn fs o k ts (s ++ later)
+        ∙ rw (cut_not o (s ++ later) (omega (arith, long-now, same, h)), same, tallied_whole s later o head fs ts h, drop-append-le (record_bytes o s) s later h)
 
-  halts_on : (big : Bool) (k : ℕ) (ts s later : List ℕ) → cut big s ≡ true → all big k ts (s ++ later) ≡ onward (halted fs big k ts s) later
+  halts_on : (o : Order) (k : ℕ) (ts s later : List ℕ) → cut o s ≡ true → all o k ts (s ++ later) ≡ onward (halted fs o k ts s) later
   unfolding halted
-  halts_on big k ts s later c =
-      by_cond (λ (p : Paused). all big k ts (s ++ later) ≡ onward p later) (passes big s) (passes_on big k ts s later c) (λ _. waits_on big k ts s later)
+  halts_on o k ts s later c =
+      by_cond (λ (p : Paused). all o k ts (s ++ later) ≡ onward p later) (passes o s) (passes_on o k ts s later c) (λ _. waits_on o k ts s later)
 
-  records_on : (n : ℕ) (big : Bool) (k : ℕ) (ts s later : List ℕ) → length s ≤ n → all big k ts (s ++ later) ≡ onward (records_to n fs big k ts s) later
+  records_on : (n : ℕ) (o : Order) (k : ℕ) (ts s later : List ℕ) → length s ≤ n → all o k ts (s ++ later) ≡ onward (records_to n fs o k ts s) later
   unfolding records_to
-  records_on zero big k ts s later h = waits_on big k ts s later
-  records_on (suc n) big k ts s later h =
-      let rest = drop (record_bytes big s) s in
-      let less : length rest ≡ length s - record_bytes big s = length-drop (record_bytes big s) s in
-      by_cond (λ (p : Paused). all big k ts (s ++ later) ≡ onward p later) (cut big s) (halts_on big k ts s later)
-      (λ c. frame_on big k ts s later c ∙ records_on n big (next_count k) (tallied fs big s ts) rest later (omega (arith, less, h)))
+  records_on zero o k ts s later h = waits_on o k ts s later
+  records_on (suc n) o k ts s later h =
+      let rest = drop (record_bytes o s) s in
+      let less : length rest ≡ length s - record_bytes o s = length-drop (record_bytes o s) s in
+      by_cond (λ (p : Paused). all o k ts (s ++ later) ≡ onward p later) (cut o s) (halts_on o k ts s later)
+      (λ c. frame_on o k ts s later c ∙ records_on n o (next_count k) (tallied fs o s ts) rest later (omega (arith, less, h)))
 
-  within_on : (big : Bool) (skip k : ℕ) (ts s later : List ℕ) → within fs big skip k ts (s ++ later) ≡ onward (within fs big skip k ts s) later
+  within_on : (o : Order) (skip k : ℕ) (ts s later : List ℕ) → within fs o skip k ts (s ++ later) ≡ onward (within fs o skip k ts s) later
   unfolding within ran
-  within_on big skip k ts s later =
+  within_on o skip k ts s later =
       let long-now : length (s ++ later) ≡ length s + length later = length-append s later in
       let none : skip - skip ≡ 0 = omega arith in
-      by_cond (λ (p : Paused). within fs big skip k ts (s ++ later) ≡ onward p later) (ltb (length s) skip)
+      by_cond (λ (p : Paused). within fs o skip k ts (s ++ later) ≡ onward p later) (ltb (length s) skip)
       (λ e.
       let less = ltb-true (length s) skip e in
-      skip_part fs big skip k (length s) ts (s ++ later) (omega (arith, less)) (omega (arith, long-now))
-      ∙ ap (λ (r : List ℕ). within fs big (skip - length s) k ts r) (drop-append_seam s later))
+      skip_part fs o skip k (length s) ts (s ++ later) (omega (arith, less)) (omega (arith, long-now))
+      ∙ ap (λ (r : List ℕ). within fs o (skip - length s) k ts r) (drop-append_seam s later))
       (λ e.
       let h = ltb-false (length s) skip e in
-      skip_part fs big skip k skip ts (s ++ later) (omega arith) (omega (arith, h, long-now))
-      ∙ ap₂ (λ (n : ℕ) (r : List ℕ). within fs big n k ts r) none (drop-append-le skip s later h)
-      ∙ within_none fs big k ts (drop skip s ++ later)
-      ∙ records_on (length (drop skip s)) big k ts (drop skip s) later (omega arith))
+      skip_part fs o skip k skip ts (s ++ later) (omega arith) (omega (arith, h, long-now))
+      ∙ ap₂ (λ (n : ℕ) (r : List ℕ). within fs o n k ts r) none (drop-append-le skip s later h)
+      ∙ within_none fs o k ts (drop skip s ++ later)
+      ∙ records_on (length (drop skip s)) o k ts (drop skip s) later (omega arith))
 
-  opened_on : (ts s later : List ℕ) (b big : Bool) → ran fs (cond b (Within big 0 0) (Refusing 17 0)) ts (s ++ later) ≡ onward (ran fs (cond b (Within big 0 0) (Refusing 17 0)) ts s) later
+  opened_on : (ts s later : List ℕ) (b : Bool) (o : Order) → ran fs (cond b (amid o 0 0) (Refusing (unplaced Capture))) ts (s ++ later) ≡ onward (ran fs (cond b (amid o 0 0) (Refusing (unplaced Capture))) ts s) later
   unfolding ran
-  opened_on ts s later true big = within_on big 0 0 ts s later
-  opened_on ts s later false big = refl
+  opened_on ts s later true o = within_on o 0 0 ts s later
+  opened_on ts s later false o = refl
 
   start_on : (ts s later : List ℕ) → file_header ≤ length s → ran fs Start ts (s ++ later) ≡ onward (ran fs Start ts s) later
   unfolding opened
@@ -134,7 +133,7 @@ module _ (fs : List Filter) where
       let long-now : length (s ++ later) ≡ length s + length later = length-append s later in
       open_turn fs ts (s ++ later) (omega (arith, h, long-now))
       ∙ ap₂ (λ (st : Stand) (r : List ℕ). ran fs st ts r) (opened_within s later h) (drop-append-le file_header s later h)
-      ∙ opened_on ts (drop file_header s) later (linked s) (begins true s)
+      ∙ opened_on ts (drop file_header s) later (linked s) (order_of s)
       ∙ ap (λ (p : Paused). onward p later) (sym (open_turn fs ts s h))
 
   start_wait : (ts s : List ℕ) → length s < file_header → ran fs Start ts s ≡ paused Start ts s
@@ -148,54 +147,54 @@ module _ (fs : List Filter) where
       by_test _ (ltb (length s) file_header)
       (λ e. ap (λ (p : Paused). onward p later) (sym (start_wait ts s (ltb-true (length s) file_header e))))
       (λ e. start_on ts s later (ltb-false (length s) file_header e))
-  ran_on (Within big skip k) ts s later = within_on big skip k ts s later
-  ran_on (Refusing r k) ts s later = refl
+  ran_on (Within w) ts s later = within_on w.order w.left w.number ts s later
+  ran_on (Refusing r) ts s later = refl
 
   -- At the end of the file.
-  module _ (big : Bool) (k : ℕ) (ts s : List ℕ) where
-    none_left : length s ≡ 0 → finished (paused (Within big 0 k) ts s) ≡ replay_of (Counted k) ts
+  module _ (o : Order) (k : ℕ) (ts s : List ℕ) where
+    none_left : length s ≡ 0 → finished (paused (amid o 0 k) ts s) ≡ replay_of (Ok k) ts
     unfolding finished ending
     none_left e = rw (eq-eqb (length s) 0 e)
 
-    some_left : 0 < length s → finished (paused (Within big 0 k) ts s) ≡ replay_of (Refused 18 (next_count k)) ts
+    some_left : 0 < length s → finished (paused (amid o 0 k) ts s) ≡ replay_of (Err (refused CutRecord (next_count k))) ts
     unfolding finished ending
     some_left h = rw (ne_eqb (length s) 0 (λ (e : length s ≡ 0). omega (arith, h, e)))
 
-    passed_left : (ts' : List ℕ) → cut big s ≡ true → finished (paused (Within big (record_bytes big s - length s) (next_count k)) ts' []) ≡ replay_of (Refused 18 (next_count k)) ts
+    passed_left : (ts' : List ℕ) → cut o s ≡ true → finished (paused (amid o (record_bytes o s - length s) (next_count k)) ts' []) ≡ replay_of (Err (refused CutRecord (next_count k))) ts
     unfolding finished ending replay_of
     passed_left ts' c =
-        let less = cut_true big s c in
-        rw (ne_eqb (record_bytes big s - length s) 0 (λ (e : record_bytes big s - length s ≡ 0). omega (arith, less, e)))
+        let less = cut_true o s c in
+        rw (ne_eqb (record_bytes o s - length s) 0 (λ (e : record_bytes o s - length s ≡ 0). omega (arith, less, e)))
 
-    halts_end : 0 < length s → cut big s ≡ true → finished (halted fs big k ts s) ≡ replay_of (Refused 18 (next_count k)) ts
+    halts_end : 0 < length s → cut o s ≡ true → finished (halted fs o k ts s) ≡ replay_of (Err (refused CutRecord (next_count k))) ts
     unfolding halted
     halts_end h c =
-        by_cond (λ (p : Paused). finished p ≡ replay_of (Refused 18 (next_count k)) ts) (passes big s) (λ _. passed_left (tallied fs big s ts) c) (λ _. some_left h)
+        by_cond (λ (p : Paused). finished p ≡ replay_of (Err (refused CutRecord (next_count k))) ts) (passes o s) (λ _. passed_left (tallied fs o s ts) c) (λ _. some_left h)
 
-  records_end : (n : ℕ) (big : Bool) (k : ℕ) (ts s : List ℕ) → length s ≤ n → finished (records_to n fs big k ts s) ≡ records_from n fs big k ts s
+  records_end : (n : ℕ) (o : Order) (k : ℕ) (ts s : List ℕ) → length s ≤ n → finished (records_to n fs o k ts s) ≡ records_from n fs o k ts s
   unfolding records_to records_from
-  records_end zero big k ts s h = none_left big k ts s (omega arith)
-  records_end (suc n) big k ts [] h = ap finished (stays fs big k ts [] _ (omega arith)) ∙ none_left big k ts [] refl
-  records_end (suc n) big k ts (b ∷ s) h =
+  records_end zero o k ts s h = none_left o k ts s (omega arith)
+  records_end (suc n) o k ts [] h = ap finished (stays fs o k ts [] _ (omega arith)) ∙ none_left o k ts [] refl
+  records_end (suc n) o k ts (b ∷ s) h =
       let bytes = b ∷ s in
-      let rest = drop (record_bytes big bytes) bytes in
-      let less : length rest ≡ length bytes - record_bytes big bytes = length-drop (record_bytes big bytes) bytes in
-      by_test (finished (records_to (suc n) fs big k ts bytes) ≡ records_from (suc n) fs big k ts bytes) (cut big bytes)
-      (λ c. rw c (halts_end big k ts bytes (omega arith) c))
-      (λ c. rw c (records_end n big (next_count k) (tallied fs big bytes ts) rest (omega (arith, less, h))))
+      let rest = drop (record_bytes o bytes) bytes in
+      let less : length rest ≡ length bytes - record_bytes o bytes = length-drop (record_bytes o bytes) bytes in
+      by_test (finished (records_to (suc n) fs o k ts bytes) ≡ records_from (suc n) fs o k ts bytes) (cut o bytes)
+      (λ c. rw c (halts_end o k ts bytes (omega arith) c))
+      (λ c. rw c (records_end n o (next_count k) (tallied fs o bytes ts) rest (omega (arith, less, h))))
 
-  refused_start : (ts s : List ℕ) → finished (paused Start ts s) ≡ replay_of (Refused 17 0) []
+  refused_start : (ts s : List ℕ) → finished (paused Start ts s) ≡ replay_of (Err (unplaced Capture)) []
   unfolding finished ending replay_of
   refused_start ts s = refl
 
   linked_end : (ts s : List ℕ) (b : Bool) → file_header ≤ length s →
-      finished (cond b (within fs (begins true s) file_header 0 ts s) (paused (Refusing 17 0) ts [])) ≡
-      cond b (records fs (begins true s) 0 ts (drop file_header s)) (replay_of (Refused 17 0) [])
+      finished (cond b (within fs (order_of s) file_header 0 ts s) (paused (Refusing (unplaced Capture)) ts [])) ≡
+      cond b (records fs (order_of s) 0 ts (drop file_header s)) (replay_of (Err (unplaced Capture)) [])
   unfolding within records finished ending replay_of
-  linked_end ts s true h = rw (le-ltb (length s) file_header h) (records_end (length (drop file_header s)) (begins true s) 0 ts (drop file_header s) (omega arith))
+  linked_end ts s true h = rw (le-ltb (length s) file_header h) (records_end (length (drop file_header s)) (order_of s) 0 ts (drop file_header s) (omega arith))
   linked_end ts s false h = refl
 
-  start_end : (ts s : List ℕ) → finished (ran fs Start ts s) ≡ cond (headed s) (records fs (begins true s) 0 ts (drop file_header s)) (replay_of (Refused 17 0) [])
+  start_end : (ts s : List ℕ) → finished (ran fs Start ts s) ≡ cond (headed s) (records fs (order_of s) 0 ts (drop file_header s)) (replay_of (Err (unplaced Capture)) [])
   unfolding ran headed
   start_end ts s =
       by_test _ (ltb (length s) file_header)
@@ -208,63 +207,66 @@ module _ (fs : List Filter) where
   ran_whole s = start_end (replicate (tally_room (length fs)) 0) s
 
   -- Once refused, whatever follows is not looked at.
-  pub refused_stays : (s later : List ℕ) (r k : ℕ) → (ran fs Start (replicate (tally_room (length fs)) 0) s).stand ≡ Refusing r k → replayed fs (s ++ later) ≡ replay_of (Refused r k) []
+  pub refused_stays : (s later : List ℕ) (r : Refused ℕ) → (ran fs Start (replicate (tally_room (length fs)) 0) s).stand ≡ Refusing r → replayed fs (s ++ later) ≡ replay_of (Err r) []
   unfolding finished ending replay_of
-  refused_stays s later r k e =
+  refused_stays s later r e =
       let p = ran fs Start (replicate (tally_room (length fs)) 0) s in
       sym (ran_whole (s ++ later))
       ∙ ap finished (ran_on Start (replicate (tally_room (length fs)) 0) s later
-      ∙ ap (λ (st : Stand). ran fs st p.counts (p.rest ++ later)) e ∙ refusing_turn fs r k p.counts (p.rest ++ later))
+      ∙ ap (λ (st : Stand). ran fs st p.counts (p.rest ++ later)) e ∙ refusing_turn fs r p.counts (p.rest ++ later))
 
   -- So many tallies are left, and less waits than a record of the longest frame takes.
   abbrev Sound : ℕ → Paused → Type 0
   Sound m p = (length p.counts ≡ m) × (length p.rest < record_header + max_frame)
 
-  waits_few : (big : Bool) (s : List ℕ) → cut big s ≡ true → passes big s ≡ false → length s < record_header + max_frame
-  waits_few big s c e =
+  waits_few : (o : Order) (s : List ℕ) → cut o s ≡ true → passes o s ≡ false → length s < record_header + max_frame
+  waits_few o s c e =
       by_test _ (ltb (length s) record_header) (λ t. let less = ltb-true (length s) record_header t in omega (arith, less))
       (λ t.
       let there = ltb-false (length s) record_header t in
-      let neither-is = neither (short big s) (long big s) (sym (passes_so big s there) ∙ e) in
-      omega (arith, cut_true big s c, ltb-false max_frame (captured big s) neither-is.1))
+      let neither-is = neither (short o s) (long o s) (sym (passes_so o s there) ∙ e) in
+      omega (arith, cut_true o s c, ltb-false max_frame (captured o s) neither-is.1))
 
-  halted_sound : (m : ℕ) (big : Bool) (k : ℕ) (ts s : List ℕ) → length ts ≡ m → cut big s ≡ true → Sound m (halted fs big k ts s)
+  halted_sound : (m : ℕ) (o : Order) (k : ℕ) (ts s : List ℕ) → length ts ≡ m → cut o s ≡ true → Sound m (halted fs o k ts s)
   unfolding halted
-  halted_sound m big k ts s e c =
-      by_cond (Sound m) (passes big s) (λ _. (tallied_long fs big s ts ∙ e, omega arith)) (λ t. (e, waits_few big s c t))
+  halted_sound m o k ts s e c =
+      by_cond (Sound m) (passes o s) (λ _. (tallied_long fs o s ts ∙ e, omega arith)) (λ t. (e, waits_few o s c t))
 
-  records_sound : (n m : ℕ) (big : Bool) (k : ℕ) (ts s : List ℕ) → length s ≤ n → length ts ≡ m → Sound m (records_to n fs big k ts s)
+  records_sound : (n m : ℕ) (o : Order) (k : ℕ) (ts s : List ℕ) → length s ≤ n → length ts ≡ m → Sound m (records_to n fs o k ts s)
   unfolding records_to
-  records_sound zero m big k ts s h e = (e, omega (arith, h))
-  records_sound (suc n) m big k ts s h e =
-      let rest = drop (record_bytes big s) s in
-      let less : length rest ≡ length s - record_bytes big s = length-drop (record_bytes big s) s in
-      by_cond (Sound m) (cut big s) (halted_sound m big k ts s e)
-      (λ _. records_sound n m big (next_count k) (tallied fs big s ts) rest (omega (arith, less, h)) (tallied_long fs big s ts ∙ e))
+  records_sound zero m o k ts s h e = (e, omega (arith, h))
+  records_sound (suc n) m o k ts s h e =
+      let rest = drop (record_bytes o s) s in
+      let less : length rest ≡ length s - record_bytes o s = length-drop (record_bytes o s) s in
+      by_cond (Sound m) (cut o s) (halted_sound m o k ts s e)
+      (λ _. records_sound n m o (next_count k) (tallied fs o s ts) rest (omega (arith, less, h)) (tallied_long fs o s ts ∙ e))
 
-  within_sound : (m : ℕ) (big : Bool) (skip k : ℕ) (ts s : List ℕ) → length ts ≡ m → Sound m (within fs big skip k ts s)
+  within_sound : (m : ℕ) (o : Order) (skip k : ℕ) (ts s : List ℕ) → length ts ≡ m → Sound m (within fs o skip k ts s)
   unfolding within
-  within_sound m big skip k ts s e =
-      by_cond (Sound m) (ltb (length s) skip) (λ _. (e, omega arith)) (λ _. records_sound (length (drop skip s)) m big k ts (drop skip s) (omega arith) e)
+  within_sound m o skip k ts s e =
+      by_cond (Sound m) (ltb (length s) skip) (λ _. (e, omega arith)) (λ _. records_sound (length (drop skip s)) m o k ts (drop skip s) (omega arith) e)
 
   pub ran_sound : (m : ℕ) (st : Stand) (ts s : List ℕ) → length ts ≡ m → Sound m (ran fs st ts s)
   unfolding ran
   ran_sound m Start ts s e =
       by_cond (Sound m) (ltb (length s) file_header) (λ t. let less = ltb-true (length s) file_header t in (e, omega (arith, less)))
-      (λ _. by_cond (Sound m) (linked s) (λ _. within_sound m (begins true s) file_header 0 ts s e) (λ _. (e, omega arith)))
-  ran_sound m (Within big skip k) ts s e = within_sound m big skip k ts s e
-  ran_sound m (Refusing r k) ts s e = (e, omega arith)
+      (λ _. by_cond (Sound m) (linked s) (λ _. within_sound m (order_of s) file_header 0 ts s e) (λ _. (e, omega arith)))
+  ran_sound m (Within w) ts s e = within_sound m w.order w.left w.number ts s e
+  ran_sound m (Refusing r) ts s e = (e, omega arith)
 
 -- An accepted list goes on by its filters.
-module _ (l : List ℕ) (n t : ℕ) (accepted : listed l ≡ Accepted n t) where
+module _ (l : List ℕ) (c : Counts) (accepted : listed l ≡ Ok c) where
   abbrev fs : List Filter
   fs = filters_of l
 
   abbrev zeros : List ℕ
   zeros = replicate (tally_room (length fs)) 0
 
+  abbrev n : ℕ
+  n = c.filters
+
   room : tally_room (length fs) ≡ tally_room n
-  room = let e = (accepted_count l n t accepted).0 in omega (arith, e)
+  room = let e = (accepted_count l c.filters c.tests accepted).0 in omega (arith, e)
 
   pub went_ran : (st : Stand) (ts s : List ℕ) → length ts ≡ tally_room n → went_on l st ts s ≡ ran fs st ts s
   unfolding went_on went_on_by
@@ -290,43 +292,29 @@ module _ (l : List ℕ) (n t : ℕ) (accepted : listed l ≡ Accepted n t) where
 -- All calls, by any text.
 listed_whole : (x : Listed) (l : List ℕ) (words : ℕ) (parts : List (List ℕ)) → listed l ≡ x → played_by (begun_with x words) l parts ≡ replayed_by x l (joined parts)
 unfolding played_by begun_with replayed_by
-listed_whole (L.Refused r i) l words parts e = refl
-listed_whole (L.Accepted n t) l words parts e = accepted_whole l n t e parts
+listed_whole (Err r) l words parts e = refl
+listed_whole (Ok c) l words parts e = accepted_whole l c e parts
 
 pub played_whole : (x : List ℕ) (parts : List (List ℕ)) → played x parts ≡ text_replayed x (joined parts)
 unfolding played begun_by text_replayed played_by
 played_whole x parts =
     by_test _ (readable x) (λ e. rw e (listed_whole (listed (words_of x)) (words_of x) (length (words_of x)) parts refl)) (λ e. rw e)
 
--- What tells a list that is ready: its words, its tallies, and that it is.
-unfoldable words_in : Begun → ℕ
-words_in (B.Ready words tallies) = words
-words_in (B.Refused r i) = 0
-
-unfoldable tallies_in : Begun → ℕ
-tallies_in (B.Ready words tallies) = tallies
-tallies_in (B.Refused r i) = 0
-
-unfoldable is_ready : Begun → Bool
-is_ready (B.Ready words tallies) = true
-is_ready (B.Refused r i) = false
-
 -- A list that is ready has the words of its text, and takes no more tallies than the longest.
-abbrev Fit : List ℕ → ℕ → ℕ → Begun → Type 0
-Fit l words tallies b = b ≡ B.Ready words tallies → (words ≡ length l) × (tallies ≤ tally_room max_filters)
+abbrev Fit : List ℕ → Ready → Result Ready (Refused ℕ) → Type 0
+Fit l r b = b ≡ Ok r → (r.words ≡ length l) × (r.tallies ≤ tally_room max_filters)
 
-unfit : (l : List ℕ) (words tallies r i : ℕ) → Fit l words tallies (B.Refused r i)
-unfolding is_ready
-unfit l words tallies r i e = absurd (false≢true (ap is_ready e))
+listed_fit : (l : List ℕ) (r : Ready) (x : Listed) → listed l ≡ x → Fit l r (begun_with x (length l))
+unfolding begun_with
+listed_fit l r (Err e) q f = cc
+listed_fit l r (Ok c) q f =
+    let same : record { words = length l; tallies = tally_room c.filters } ≡ r = cc in
+    (sym (ap (λ (x : Ready). x.words) same), omega (arith, ap (λ (x : Ready). x.tallies) same, (accepted_count l c.filters c.tests q).2))
 
-listed_fit : (l : List ℕ) (words tallies : ℕ) (x : Listed) → listed l ≡ x → Fit l words tallies (begun_with x (length l))
-unfolding begun_with words_in tallies_in
-listed_fit l words tallies (L.Refused r i) e = unfit l words tallies r i
-listed_fit l words tallies (L.Accepted n t) e =
-    λ f. let same : tally_room n ≡ tallies = ap tallies_in f in (sym (ap words_in f), omega (arith, same, (accepted_count l n t e).2))
+unread_fit : (l : List ℕ) (r : Ready) (e : Refused ℕ) → Fit l r (Err e)
+unread_fit l r e f = cc
 
-pub ready_fit : (x : List ℕ) (words tallies : ℕ) → Fit (words_of x) words tallies (begun_by x)
+pub ready_fit : (x : List ℕ) (r : Ready) → Fit (words_of x) r (begun_by x)
 unfolding begun_by
-ready_fit x words tallies =
-    by_cond (Fit (words_of x) words tallies) (readable x) (λ _. listed_fit (words_of x) words tallies (listed (words_of x)) refl)
-    (λ _. unfit (words_of x) words tallies text_refusal 0)
+ready_fit x r =
+    by_cond (Fit (words_of x) r) (readable x) (λ _. listed_fit (words_of x) r (listed (words_of x)) refl) (λ _. unread_fit (words_of x) r (unplaced text_refusal))

@@ -4,6 +4,7 @@
 --   items_last         so is a run at the text's end
 --   reads_one          one promise allows one outcome
 --   reads_refused      a refused text is not readable
+--   reads_why          a text is refused with 14 alone
 --   reads_accepted     a text whose words are counted is readable
 --   reads_fit          the words that an answer counts lie within the words lent
 --   reads_first        and there they stand first
@@ -54,6 +55,10 @@ refused_by : (a : Bool) (m : ℕ) (r : Result ℕ Refusal) → r ≡ cond a (Ok 
 refused_by true m r p e = cc
 refused_by false m r p e = refl
 
+why_refused : (a : Bool) (m : ℕ) (r : Result ℕ Refusal) (e : Refusal) → r ≡ cond a (Ok m) (Err text_refusal) → r ≡ Err e → e ≡ text_refusal
+why_refused true m r e p f = cc
+why_refused false m r e p f = cc
+
 counted_by : (a : Bool) (m n : ℕ) (r : Result ℕ Refusal) → r ≡ cond a (Ok m) (Err text_refusal) → r ≡ Ok n → (a ≡ true) × (m ≡ n)
 counted_by true m n r p e = (refl, cc)
 counted_by false m n r p e = cc
@@ -62,6 +67,10 @@ module _ {t before after : List ℕ} {r : Result ℕ Refusal} (p : Reads t befor
   pub reads_refused : r ≡ Err text_refusal → readable t ≡ false
   unfolding read_of
   reads_refused e = refused_by (readable t) (length (words_of t)) r p.answer e
+
+  pub reads_why : (e : Refusal) → r ≡ Err e → e ≡ text_refusal
+  unfolding read_of
+  reads_why e f = why_refused (readable t) (length (words_of t)) r e p.answer f
 
   module _ (n : ℕ) (e : r ≡ Ok n) where
     counted_so : (readable t ≡ true) × (length (words_of t) ≡ n)
