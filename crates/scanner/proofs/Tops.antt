@@ -63,13 +63,13 @@ module _ (fs : List Filter) where
         (above_irreflexive fs i)))
         (λ m. T.matches_fires fs r i m)))
 
--- Both where the set was made of n filters, by readings that are the frame's.
-module _ (fs : List Filter) (q r : ℕ → Option ℕ) (n s : ℕ) (e : length fs ≡ n) (z : q ≡ r) (h : s ≡ set_of (tally n (fires fs q))) where
+-- Both where the set was made by readings that are the frame's.
+module _ (fs : List Filter) (q r : ℕ → Option ℕ) (s : ℕ) (z : q ≡ r) (h : s ≡ set_of (tally (length fs) (fires fs q))) where
   pub top_held : top_set fs s ≡ match_set fs r
-  top_held = rw (h, ← e, z) (top_matches fs r)
+  top_held = rw (h, z) (top_matches fs r)
 
   whole : s ≡ set_of (tally (length fs) (fires fs r))
-  whole = h ∙ ap₂ (λ (k : ℕ) (p : ℕ → Option ℕ). set_of (tally k (fires fs p))) (sym e) z
+  whole = h ∙ ap (λ (p : ℕ → Option ℕ). set_of (tally (length fs) (fires fs p))) z
 
   pub lone_held : eqb (bit_and s (s - 1)) 0 ≡ true → s ≡ match_set fs r
   lone_held b = whole ∙ lone_matches fs r (ap (λ (x : ℕ). bit_and x (x - 1)) (sym whole) ∙ eqb-true (bit_and s (s - 1)) 0 b)

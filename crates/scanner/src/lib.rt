@@ -7,15 +7,16 @@ ghost use Rattle.sets.specs.Sets.{set_of, tally, member};
 ghost use Rattle.residue.specs.Tests.{holds_of};
 ghost use Rattle.fields.specs.Fields.{field};
 ghost use Rattle.fields.specs.Header.{reading_at};
-ghost use Rattle.lists.specs.Filters.{max_filters, test_words, item_of, items_of, filters_of};
-ghost use Rattle.lists.specs.Refusals.{counts, listed};
+ghost use Rattle.lists.specs.declared.Counts.{Counts};
+ghost use Rattle.lists.specs.Filters.{max_filters, test_words, filter_words, item_of, filter_of, filters_of};
+ghost use Rattle.lists.specs.Refusals.{listed};
 ghost use Rattle.lists.specs.Ranks.{all_hold, fires, match_set};
 ghost use Rattle.lists.specs.inner.Columns.{above_by};
 ghost use Rattle.scanner.specs.Scan.{scanned};
 ghost use Rattle.scanner.specs.inner.Standing.{beaten_by, stands_by, top_set};
 
 use fields::{Header, MAX_FRAME};
-use lists::{MAX_FILTERS, NO_RANK, Rank};
+use lists::{Filters, HEAD_WORDS, MAX_FILTERS, NO_RANK, Rank, TEST_WORDS};
 use refusals::{Refusal, Refused};
 use sets::Set;
 
@@ -29,26 +30,23 @@ fn holds_at(list: &[u32], at: usize, header: &Header) -> bool
         .is_some_and(|x| residue::test_holds(lists::test_at(list, at), x))
 }
 
-// Whether so many tests from a place on all hold; left at the first that does not.
-fn all_hold(list: &[u32], at: usize, count: usize, header: &Header) -> bool
-    requires { at + test_words * count ≤ length list.now }
-    ensures { result ≡ all_hold (reading_at header.now.present header.now.values) (items_of count (drop at list.now)) }
+// Whether all tests of the filter that the words begin with hold; left at the first that does not.
+fn all_hold(words: &[u32], header: &Header) -> bool
+    requires { filter_words words.now ≤ length words.now }
+    ensures { result ≡ all_hold (reading_at header.now.present header.now.values) (filter_of words.now).tests }
 {
-    (0..count).all(|test| holds_at(list, at + lists::TEST_WORDS * test, header))
+    let count = lists::count_at(words, 0) as usize;
+    (0..count).all(|test| holds_at(words, HEAD_WORDS + TEST_WORDS * test, header))
 }
 
-// The set of the filters whose tests all hold.
-fn fires_set(list: &[u32], n: usize, header: &Header) -> Set
-    requires { (t : ℕ) × (listed list.now ≡ Ok (counts n t)) }
-    ensures { result ≡ set_of (tally n (fires (filters_of list.now) (reading_at header.now.present header.now.values))) }
+// The set of an accepted list's filters whose tests all hold.
+fn fires_set(list: &[u32], header: &Header) -> Set
+    requires { (c : Counts) × (listed list.now ≡ Ok c) }
+    ensures { result ≡ set_of (tally (length (filters_of list.now)) (fires (filters_of list.now) (reading_at header.now.present header.now.values))) }
 {
-    let mut at: usize = 0;
     let mut set: Set = 0;
-    for i in 0..n {
-        let count = lists::count_at(list, at);
-        let fires = all_hold(list, at + lists::HEAD_WORDS, count as usize, header);
-        set = sets::put(set, i as u32, fires);
-        at += lists::filter_words(count);
+    for (i, words) in Filters(list).enumerate() {
+        set = sets::put(set, i as u32, all_hold(words, header));
     }
     set
 }
@@ -106,15 +104,15 @@ fn top_set(list: &[u32], held: Set) -> Set
     standing(&ranks, n, held)
 }
 
-// The match set of a frame by an accepted list of n filters, which is not checked again. Of most frames one filter holds at most:
+// The match set of a frame by an accepted list, which is not checked again. Of most frames one filter holds at most:
 // then no rank is looked at.
-pub fn scan_accepted(list: &[u32], n: usize, frame: &[u8], port: u8) -> Set
-    requires { (t : ℕ) × (listed list.now ≡ Ok (counts n t)) }
+pub fn scan_accepted(list: &[u32], frame: &[u8], port: u8) -> Set
+    requires { (c : Counts) × (listed list.now ≡ Ok c) }
     ensures { result ≡ match_set (filters_of list.now) (field frame.now port) }
 {
     let mut header = Header::new();
     header.read(frame, port);
-    let held = fires_set(list, n, &header);
+    let held = fires_set(list, &header);
     if lone(held) {
         return held;
     }
@@ -125,10 +123,10 @@ pub fn scan_accepted(list: &[u32], n: usize, frame: &[u8], port: u8) -> Set
 pub fn scan(list: &[u32], frame: &[u8], port: u8) -> Result<Set, Refused<u32>>
     ensures { result ≡ scanned list.now frame.now port }
 {
-    let counts = lists::check(list)?;
+    lists::check(list)?;
     let is_long = MAX_FRAME < frame.len();
     if is_long {
         return Err(Refusal::LongFrame.into());
     }
-    Ok(scan_accepted(list, counts.filters as usize, frame, port))
+    Ok(scan_accepted(list, frame, port))
 }

@@ -4,12 +4,14 @@ use borrow.Author.Tests.{tests}
 use Rattle.std.proofs.lemmas.Iterator.{YieldsList-from_range}
 use Rattle.std.proofs.lemmas.Iterator.Search.{all_from_yields_List}
 use Rattle.fields.specs.Header.{reading_at}
-use Rattle.lists.specs.Filters.{test_words}
+use Rattle.lists.specs.Filters.{head_words, test_words, count_word, filter_of}
 use Rattle.scanner.proofs.Scanning.{here, tests_range}
 use Rattle.scanner.proofs.all_hold.Goals as goal
 
 pub returns : goal.returns
+unfolding filter_of
 returns c =
     let r = reading_at c.args.header.now.present c.args.header.now.values in
-    all_from_yields_List (λ j. here r c.args.list.now (c.args.at + test_words * j)) _ _ _ c.all.ensures.ran (YieldsList-from_range 0 c.args.count c.args.count refl (sub-zero _)) (λ x b q k. search (rules, tests)) ∙
-    tests_range r c.args.list.now c.args.at c.args.count
+    let n = count_word c.args.words.now in
+    all_from_yields_List (λ j. here r c.args.words.now (head_words + test_words * j)) _ _ _ c.all.ensures.ran (YieldsList-from_range 0 c.count_at-count.result n refl (sub-zero _ ∙ c.count_at-count.ensures)) (λ x b q k. search (rules, tests)) ∙
+    tests_range r c.args.words.now head_words n
