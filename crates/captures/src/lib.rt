@@ -282,8 +282,7 @@ impl Counting<'_> {
         if s.len() < end {
             return None;
         }
-        let n = self.filters();
-        let set = scanner::scan_accepted(self.list, n, &s[RECORD_HEADER..end], 0);
+        let set = scanner::scan_accepted(self.list, &s[RECORD_HEADER..end], 0);
         self.count_frame(set);
         Some(Gone {
             taken: end,
