@@ -1,4 +1,1 @@
 pub mod laws
-pub mod SmallWidths
-pub mod Transports
-pub mod Headers

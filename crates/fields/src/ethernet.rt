@@ -17,6 +17,7 @@ pub const IP_START: usize = 14;
 const LEAST_TYPE: u32 = 1536;
 
 // Field 0.
+#[tactic(auto, unfolding(crate::specs::Ethernet::ethernet, crate::specs::Ethernet::ether_type))]
 fn type_in(frame: &[u8]) -> Option<u32>
     ensures { result ≡ type_in frame.now }
 {
@@ -32,6 +33,7 @@ fn type_in(frame: &[u8]) -> Option<u32>
 
 impl Header {
     // The first step of reading: the box port, and field 0 if the frame has it. It answers with the transport part of the frame's packet.
+    #[tactic(auto, unfolding(crate::specs::Header::noted, crate::specs::Header::filled, crate::specs::Ethernet::ethernet, crate::specs::Ipv4::internet))]
     pub fn read_ethernet(&mut self, frame: &[u8], port: u8) -> Option<Part>
         ensures puts { Added (first_puts frame.now port) (record self.old { present = 0 }) self.new }
         ensures found { result ≡ packet_in frame.now }
@@ -47,11 +49,11 @@ impl Header {
 }
 
 // Whether a frame that begins with these bytes could have field 0: its first byte decides.
+#[tactic(auto, unfolding(crate::specs::Seen::may_be_type, crate::specs::Seen::could))]
 pub fn may_be_type(frame: &[u8]) -> bool
     ensures { result ≡ may_be_type frame.now }
 {
-    if frame.len() <= TYPE_AT {
-        return true;
-    }
-    LEAST_TYPE / 256 <= byte_at(frame, TYPE_AT)
+    frame
+        .get(TYPE_AT)
+        .is_none_or(|byte| LEAST_TYPE / 256 <= u32::from(*byte))
 }

@@ -6,7 +6,7 @@ ghost use Rattle.fields.specs.Seen.{may_be_internet, may_begin};
 ghost use Rattle.fields.specs.inner.Parts.{Added, packet_in, part_puts};
 
 use crate::Header;
-use crate::bytes::{byte_at, could_be, four_at, two_at};
+use crate::bytes::{byte_at, four_at, two_at};
 use crate::ethernet::{IP_START, TYPE_AT};
 
 // The EtherType, and the bytes of the shortest header and of the shortest frame that has one.
@@ -18,9 +18,9 @@ const IPV4_LOW: u8 = (IPV4 % 256) as u8;
 
 const LEAST_HEADER: usize = 20;
 
-const LEAST_FIRST: u32 = 16 * 4 + LEAST_HEADER as u32 / 4;
+const LEAST_FIRST: u8 = 16 * 4 + LEAST_HEADER as u8 / 4;
 
-const MOST_FIRST: u32 = 16 * 4 + 15;
+const MOST_FIRST: u8 = 16 * 4 + 15;
 
 const LEAST_FRAME: usize = IP_START + LEAST_HEADER;
 // Where the total length, the fragment's flags and offset, and the protocol stand.
@@ -54,27 +54,25 @@ pub struct Part {
 }
 
 // Whether this can be the first byte of a header: version 4 and a header length of five fours at the least, which is one range.
-fn is_first(byte: u32) -> bool
+fn is_first(byte: u8) -> bool
     ensures { result ≡ (eqb (byte / 16) 4 && leb 5 (byte % 16)) }
 {
-    (LEAST_FIRST <= byte) & (byte <= MOST_FIRST)
+    matches!(byte, LEAST_FIRST..=MOST_FIRST)
 }
 
 // The packet in a frame.
+#[tactic(auto, unfolding(crate::specs::Ipv4::internet, crate::specs::Ipv4::version, crate::specs::Ipv4::header_length, crate::specs::Ipv4::total_length, crate::specs::Ipv4::transport_start, crate::specs::Ipv4::transport_end))]
 pub fn packet_in(frame: &[u8]) -> Option<Part>
     ensures { result ≡ packet_in frame.now }
 {
-    if frame.len() < LEAST_FRAME {
+    if frame.len() < LEAST_FRAME || two_at(frame, TYPE_AT) != IPV4 {
         return None;
     }
-    if two_at(frame, TYPE_AT) != IPV4 {
-        return None;
-    }
-    let first = byte_at(frame, IP_START);
+    let first = frame[IP_START];
     if !is_first(first) {
         return None;
     }
-    let header = 4 * (first % 16) as usize;
+    let header = 4 * usize::from(first % 16);
     let total = two_at(frame, TOTAL_AT) as usize;
     if total < header {
         return None;
@@ -92,36 +90,27 @@ pub fn packet_in(frame: &[u8]) -> Option<Part>
 }
 
 // Whether a frame that begins with these bytes could have this header. Its total length may be any.
+#[tactic(auto, unfolding(crate::specs::Seen::may_be_internet, crate::specs::Seen::could))]
 pub fn may_be_packet(frame: &[u8]) -> bool
     ensures { result ≡ may_be_internet frame.now }
 {
-    if !could_be(frame, TYPE_AT, IPV4_HIGH) {
-        return false;
-    }
-    if !could_be(frame, TYPE_AT + 1, IPV4_LOW) {
-        return false;
-    }
-    if frame.len() <= IP_START {
-        return true;
-    }
-    is_first(byte_at(frame, IP_START))
+    frame.get(TYPE_AT).is_none_or(|byte| *byte == IPV4_HIGH)
+        && frame.get(TYPE_AT + 1).is_none_or(|byte| *byte == IPV4_LOW)
+        && frame.get(IP_START).is_none_or(|byte| is_first(*byte))
 }
 
 // Whether a packet that begins with these bytes could have a transport part: its offset is 0 so far as it is there.
+#[tactic(auto, unfolding(crate::specs::Seen::may_begin, crate::specs::Seen::could))]
 pub fn may_begin(frame: &[u8]) -> bool
     ensures { result ≡ may_begin frame.now }
 {
-    if frame.len() <= FRAGMENT_AT {
-        return true;
-    }
-    if byte_at(frame, FRAGMENT_AT) % 32 != 0 {
-        return false;
-    }
-    could_be(frame, FRAGMENT_AT + 1, 0)
+    frame.get(FRAGMENT_AT).is_none_or(|byte| *byte % 32 == 0)
+        && frame.get(FRAGMENT_AT + 1).is_none_or(|byte| *byte == 0)
 }
 
 impl Header {
     // The packet's own fields.
+    #[tactic(auto, unfolding(crate::specs::Header::noted, crate::specs::Header::filled, crate::specs::Ipv4::internet_puts, crate::specs::Ipv4::total_length, crate::specs::Ipv4::protocol))]
     fn fill_internet(&mut self, frame: &[u8])
         requires { 34 ≤ length frame.now }
         ensures { Added (internet_puts frame.now) self.old self.new }
@@ -136,6 +125,7 @@ impl Header {
     }
 
     // The second step of reading: these, if the frame has a packet.
+    #[tactic(auto, unfolding(crate::specs::Header::noted, crate::specs::Header::filled, crate::specs::Ipv4::internet))]
     pub fn read_internet(&mut self, frame: &[u8], packet: Option<Part>)
         requires { packet ≡ packet_in frame.now }
         ensures { Added (only_if (internet frame.now) (internet_puts frame.now)) self.old self.new }
@@ -146,6 +136,7 @@ impl Header {
     }
 
     // The third step: the fields of its transport part, which is read as a part of the frame.
+    #[tactic(auto, unfolding(crate::specs::Header::noted, crate::specs::Header::filled, crate::specs::Ipv4::protocol, crate::specs::Ipv4::internet, crate::specs::Ipv4::transport, crate::specs::Ipv4::transport_start, crate::specs::Ipv4::transport_end, crate::specs::Ipv4::header_length, crate::specs::Ipv4::total_length))]
     pub fn read_transport(&mut self, frame: &[u8], packet: Option<Part>)
         requires { packet ≡ packet_in frame.now }
         ensures { Added (part_puts frame.now) self.old self.new }

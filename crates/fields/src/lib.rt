@@ -11,6 +11,8 @@ ghost use Rattle.fields.specs.inner.Parts.{Added, lacking};
 
 use bytes::byte_at;
 use ethernet::ETHER_TYPE;
+use ipv4::{PROTOCOL, PROTOCOL_AT};
+use transport::{DESTINATION_PORT, ICMP_CODE, TCP, TCP_FLAGS};
 
 mod bytes;
 mod ethernet;
@@ -48,15 +50,8 @@ pub enum Seen {
     Cut,
 }
 
-// Whether a field is in a set of fields.
-pub fn in_set(set: u32, number: u32) -> bool
-    requires { number < field_count }
-    ensures { result ≡ member number set }
-{
-    (set >> number) % 2 == 1
-}
-
 // The set of the fields that a frame could have that begins with these bytes.
+#[tactic(auto, using(crate::proofs::laws::Cut::packet_type), unfolding(crate::specs::Seen::chances, crate::specs::Seen::may_carry, crate::specs::inner::Parts::carried, crate::specs::Seen::could, sets::specs::Sets::set_of))]
 fn possible_set(frame: &[u8]) -> u32
     ensures { result ≡ set_of (chances frame.now) }
 {
@@ -70,17 +65,26 @@ fn possible_set(frame: &[u8]) -> u32
     if !ipv4::may_begin(frame) {
         return header;
     }
-    header + transport::carried_set(frame, ipv4::PROTOCOL_AT)
+    header + transport::carried_set(frame, PROTOCOL_AT)
 }
 
 impl Header {
     // What becomes of a field that is found: its value goes into its word, and its number into the set of the fields present.
+    #[tactic(auto, unfolding(crate::specs::Header::noted, crate::specs::Header::filled))]
     fn put(&mut self, number: u32, value: u32)
         requires { number < field_count }
         ensures { Added ((number, value) ∷ []) self.old self.new }
     {
         self.values[number as usize] = value;
         self.present |= 1 << number;
+    }
+
+    // Whether the frame has a field.
+    fn has(&self, number: u32) -> bool
+        requires { number < field_count }
+        ensures { result ≡ member number self.now.present }
+    {
+        sets::has(u64::from(self.present), number)
     }
 
     // No field, and all words 0.
@@ -105,16 +109,12 @@ impl Header {
     }
 
     // Field `number`: a bit of the set and a word.
+    #[tactic(auto, unfolding(crate::specs::Header::reading_at))]
     pub fn reading(&self, number: u32) -> Option<u32>
         ensures { result ≡ reading_at self.now.present self.now.values number }
     {
-        if LAST_FIELD < number {
-            return None;
-        }
-        if (self.present >> number) % 2 == 1 {
-            return Some(self.values[number as usize]);
-        }
-        None
+        let value = self.values.get(number as usize)?;
+        self.has(number).then_some(*value)
     }
 
     // The set of the fields that are cut, by those that are present. A part that has its protocol's last field has them all, and a
@@ -123,41 +123,33 @@ impl Header {
         requires { (p : ℕ) × (self.now.present ≡ present_set frame.now p) }
         ensures { result ≡ lacking frame.now self.now.present }
     {
+        // Lent anew: the compiler hands a slice over in registers only to a function that takes parts of it and does not pass it on.
         let whole = &frame[..];
-        let present = self.present;
-        if in_set(present, transport::TCP_FLAGS) {
+        if self.has(TCP_FLAGS) {
             return 0;
         }
-        if in_set(present, transport::ICMP_CODE) {
+        if self.has(ICMP_CODE) {
             return 0;
         }
-        if in_set(present, transport::DESTINATION_PORT) {
-            if byte_at(whole, ipv4::PROTOCOL_AT) != transport::TCP {
-                return 0;
-            }
+        if self.has(DESTINATION_PORT) && byte_at(whole, PROTOCOL_AT) != TCP {
+            return 0;
         }
-        if in_set(present, ipv4::PROTOCOL) {
-            if !ipv4::may_begin(whole) {
-                return 0;
-            }
+        if self.has(PROTOCOL) && !ipv4::may_begin(whole) {
+            return 0;
         }
-        possible_set(whole) & !present
+        possible_set(whole) & !self.present
     }
 
     // Field `number`, with none and cut apart, by the set of the fields that are cut.
+    #[tactic(auto, unfolding(crate::specs::inner::Sight::seen_at, crate::specs::Seen::seen_of))]
     fn seen(&self, cut: u32, number: u32) -> Seen
         ensures { result ≡ seen_at self.now.present cut self.now.values number }
     {
-        if let Some(x) = self.reading(number) {
-            return Seen::Has(x);
+        match self.reading(number) {
+            Some(x) => Seen::Has(x),
+            None if number <= LAST_FIELD && sets::has(u64::from(cut), number) => Seen::Cut,
+            None => Seen::None,
         }
-        if LAST_FIELD < number {
-            return Seen::None;
-        }
-        if in_set(cut, number) {
-            return Seen::Cut;
-        }
-        Seen::None
     }
 }
 

@@ -32,6 +32,7 @@ const ICMP_SET: u32 = (1 << ICMP_TYPE) + (1 << ICMP_CODE);
 
 impl Header {
     // The ports, which TCP and UDP share: the source port too is there only if both are whole.
+    #[tactic(auto, unfolding(crate::specs::Header::noted, crate::specs::Header::filled, crate::specs::Transport::transport_puts))]
     fn fill_udp(&mut self, part: &[u8])
         ensures { Added (transport_puts udp part.now) self.old self.new }
     {
@@ -43,6 +44,7 @@ impl Header {
     }
 
     // Ports and flags.
+    #[tactic(auto, unfolding(crate::specs::Header::noted, crate::specs::Header::filled, crate::specs::Transport::transport_puts))]
     fn fill_tcp(&mut self, part: &[u8])
         ensures { Added (transport_puts tcp part.now) self.old self.new }
     {
@@ -54,6 +56,7 @@ impl Header {
     }
 
     // Type and code.
+    #[tactic(auto, unfolding(crate::specs::Header::noted, crate::specs::Header::filled, crate::specs::Transport::transport_puts))]
     fn fill_icmp(&mut self, part: &[u8])
         ensures { Added (transport_puts icmp part.now) self.old self.new }
     {
@@ -68,6 +71,7 @@ impl Header {
     }
 
     // The fields of a transport part, by its protocol.
+    #[tactic(auto, unfolding(crate::specs::Header::noted, crate::specs::Header::filled, crate::specs::Transport::transport_puts))]
     pub(crate) fn fill_transport(&mut self, part: &[u8], protocol: u32)
         ensures { Added (transport_puts protocol part.now) self.old self.new }
     {
@@ -81,21 +85,17 @@ impl Header {
 }
 
 // The fields that a part could have whose protocol stands at a place of the frame, or behind its end.
+#[tactic(auto, unfolding(crate::specs::inner::Parts::carried, crate::specs::Seen::could, sets::specs::Sets::set_of))]
 pub fn carried_set(frame: &[u8], at: usize) -> u32
     ensures { result ≡ set_of (carried frame.now at) }
 {
-    if frame.len() <= at {
+    let Some(protocol) = frame.get(at) else {
         return TCP_SET + ICMP_SET;
+    };
+    match u32::from(*protocol) {
+        TCP => TCP_SET,
+        UDP => UDP_SET,
+        ICMP => ICMP_SET,
+        _ => 0,
     }
-    let protocol = byte_at(frame, at);
-    if protocol == TCP {
-        return TCP_SET;
-    }
-    if protocol == UDP {
-        return UDP_SET;
-    }
-    if protocol == ICMP {
-        return ICMP_SET;
-    }
-    0
 }

@@ -3,11 +3,5 @@
 use Rattle.fields.proofs.laws.Filling.{header_by_steps}
 use Rattle.fields.proofs.Header.read.Goals as goal
 
-pub read_internet-requires : goal.read_internet-requires
-read_internet-requires c = c.read_ethernet-packet.ensures.found
-
-pub read_transport-requires : goal.read_transport-requires
-read_transport-requires c = c.read_ethernet-packet.ensures.found
-
 pub returns : goal.returns
 returns c = header_by_steps c.read_ethernet-packet.ensures.puts c.read_internet.ensures c.read_transport.ensures
