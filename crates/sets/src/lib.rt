@@ -16,7 +16,7 @@ pub const SET_BITS: usize = 64;
 pub const EMPTY: Set = 0;
 
 // How many numbers a word has: what one in the high half of a set stands for.
-const WORD: Set = 4294967296;
+const WORD: Set = 1 << 32;
 
 // The set with i in it where b says so. A set is made upwards, so nothing from i on is in it yet.
 pub fn put(set: Set, i: u32, b: bool) -> Set
@@ -27,6 +27,7 @@ pub fn put(set: Set, i: u32, b: bool) -> Set
 }
 
 // Whether i is in a set.
+#[tactic(auto, unfolding(crate::specs::Sets::member))]
 pub fn has(set: Set, i: u32) -> bool
     requires { i < set_bits }
     ensures { result ≡ member i set }
@@ -38,7 +39,7 @@ pub fn has(set: Set, i: u32) -> bool
 pub fn zeros_below(set: Set) -> u32
     ensures { result ≡ count_trailing_zeros set_bits set }
 {
-    u64::trailing_zeros(set)
+    set.trailing_zeros()
 }
 
 // A set as two words.
@@ -58,5 +59,5 @@ pub fn high_half(set: Set) -> u32
 pub fn of_halves(low: u32, high: u32) -> Set
     ensures { result ≡ of_halves low high }
 {
-    high as Set * WORD + low as Set
+    Set::from(high) * WORD + Set::from(low)
 }
