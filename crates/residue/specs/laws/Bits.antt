@@ -1,9 +1,9 @@
--- Laws of and, and of the bits of one number outside another, that the toolchain's lib.Bits lacks. A width stands only where a full mask does.
-use Rattle.std.specs.Prelude.{ℕ, zero, suc, ◌+◌, ◌-◌, ◌*◌, ◌/◌, ◌%◌, ◌^◌, ◌≤◌, ◌<◌, min, ◌≡◌, refl}
-use Rattle.std.proofs.Common.{sym, ap, ◌∙◌, pow-suc, mod-eq_of_lt, arith}
-use Rattle.std.proofs.Math.Arith.{bin_ind, lt-one}
+-- Laws of and, and of the bits of one number outside another, that the library lacks. A width stands only where a full mask does.
+use Rattle.std.specs.Prelude.{ℕ, ◌+◌, ◌-◌, ◌*◌, ◌/◌, ◌%◌, ◌^◌, ◌≤◌, ◌<◌, min, ◌≡◌, refl}
+use Rattle.std.proofs.Common.{sym, ap, ◌∙◌, mod-eq_of_lt, arith}
+use Rattle.std.proofs.Math.Arith.{bin_ind}
 use Rattle.std.specs.Int.Bits.{bit_and, and_step, and_self}
-use Rattle.std.proofs.lemmas.Nat.{and_shr, and_comm, and_le_l, and_le_r, and_mask}
+use Rattle.std.proofs.lemmas.Nat.{and_shr, and_assoc, and_comm, and-not, and_le_l, and_le_r, and_mask}
 use Rattle.std.proofs.Math.Pow.{pow_pos}
 use Rattle.residue.specs.Residues.{outside}
 
@@ -27,19 +27,11 @@ outside_odd a b = omega (arith, outside_step a b)
 
 -- ---- and
 
-pub and_assoc : (a b c : ℕ) → bit_and (bit_and a b) c ≡ bit_and a (bit_and b c)
-and_assoc =
-    bin_ind (λ (n : ℕ). (b c : ℕ) → bit_and (bit_and n b) c ≡ bit_and n (bit_and b c)) (λ b c. refl)
-    (λ n ih b c.
-    let l = rw (and_half n b) at (and_step (bit_and n b) c) in
-    let r = rw (and_half b c) at (and_step n (bit_and b c)) in
-    omega (arith, l, r, ih (b / 2) (c / 2), and_odd n b, and_odd b c))
-
 pub and_swap : (a b c : ℕ) → bit_and (bit_and a b) c ≡ bit_and (bit_and a c) b
-and_swap a b c = and_assoc a b c ∙ ap (bit_and a) (and_comm b c) ∙ sym (and_assoc a c b)
+and_swap a b c = and_assoc c a b ∙ ap (bit_and a) (and_comm b c) ∙ sym (and_assoc b a c)
 
 pub and_twice : (a b : ℕ) → bit_and (bit_and a b) b ≡ bit_and a b
-and_twice a b = and_assoc a b b ∙ ap (bit_and a) (and_self b)
+and_twice a b = and_assoc b a b ∙ ap (bit_and a) (and_self b)
 
 -- ---- the bits outside
 
@@ -77,27 +69,22 @@ outside_in m k = and_comm (outside m k) m ∙ and_outside m m k ∙ ap (λ (x : 
 
 -- ---- a full mask
 
--- A mask and its complement share a number out between them.
-pub and_complement : (k a b c : ℕ) → a < 2 ^ k → b + c + 1 ≡ 2 ^ k → bit_and a b + bit_and a c ≡ a
-and_complement zero a b c h e = rw (lt-one h)
-and_complement (suc k) a b c h e =
-    let w = pow-suc 2 k in
-    let ih = and_complement k (a / 2) (b / 2) (c / 2) (omega arith) (omega arith) in
-    omega (arith, ih, and_step a b, and_step a c)
-
 module _ (k full : ℕ) (e : full ≡ 2 ^ k - 1) where
   below_pow : {x : ℕ} → x ≤ full → x < 2 ^ k
   below_pow h = omega (arith, e, pow_pos k)
 
+  -- A mask and its complement share a number out between them.
+  and_complement : (a b : ℕ) → a ≤ full → b ≤ full → bit_and a (full - b) + bit_and a b ≡ a
+  and_complement a b ha hb = rw (and_comm a (full - b), and_comm a b, e) (and-not k b a (below_pow hb) (below_pow ha))
+
   -- The code's m & !b.
   pub and_not : (m b : ℕ) → m ≤ full → b ≤ full → bit_and m (full - b) ≡ outside m b
   unfolding outside
-  and_not m b hm hb = omega (arith, and_complement k m b (full - b) (below_pow hm) (omega (arith, e, pow_pos k)))
+  and_not m b hm hb = omega (arith, and_complement m b hm hb)
 
   pub and_full : (x : ℕ) → x ≤ full → bit_and x full ≡ x
   and_full x h = ap (bit_and x) e ∙ and_mask x k ∙ mod-eq_of_lt (below_pow h)
 
   -- A number lies no further above its bits under a mask than the mask leaves room.
   pub le_and_add : (x m : ℕ) → x ≤ full → m ≤ full → x ≤ bit_and x m + (full - m)
-  le_and_add x m hx hm =
-      omega (arith, and_complement k x m (full - m) (below_pow hx) (omega (arith, e, pow_pos k)), and_le_r x (full - m))
+  le_and_add x m hx hm = omega (arith, and_complement x m hx hm, and_le_r x (full - m))

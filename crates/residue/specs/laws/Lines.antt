@@ -3,12 +3,12 @@
 use Rattle.std.specs.Prelude.{ℕ, ◌+◌, ◌-◌, ◌^◌, ◌≤◌, ◌≡◌, true, false, not, ◌&&◌, eqb, leb, ltb}
 use Rattle.std.proofs.Common.{sym, ap, ◌∙◌, arith, eqb-true, ltb-true, leb-true, ne_eqb, eq-eqb}
 use Rattle.std.specs.Int.Bits.{bit_and, and_zero_r}
-use Rattle.std.proofs.lemmas.Nat.{and_comm, and_le_l}
+use Rattle.std.proofs.lemmas.Nat.{and_assoc, and_comm, and_le_l}
 use Rattle.std.proofs.lemmas.Bool.{eqb-false, not-true}
 use Rattle.residue.specs.inner.Well.{well_masked}
 use Rattle.residue.specs.Residues.{outside, covers}
 use Rattle.residue.specs.laws.Choice.{first, second, same_eqb}
-use Rattle.residue.specs.laws.Bits.{and_assoc, and_swap, and_outside, and_add_outside, le_and_add}
+use Rattle.residue.specs.laws.Bits.{and_swap, and_outside, and_add_outside, le_and_add}
 
 -- What refusals 7 to 9 leave of a mask and a value.
 pub record Masked (full m v : ℕ) : Type 0 where
@@ -58,7 +58,7 @@ differs_clash x k w m v h e =
     let i = eqb-true (bit_and k m) k (first (eqb (bit_and k m) k) (eqb (bit_and v k) w) e) in
     let j = eqb-true (bit_and v k) w (second (eqb (bit_and k m) k) (eqb (bit_and v k) w) e) in
     ne_eqb (bit_and x m) v
-    (λ q. h (ap (bit_and x) (sym i ∙ and_comm k m) ∙ sym (and_assoc x m k) ∙ ap (λ (y : ℕ). bit_and y k) q ∙ j))
+    (λ q. h (ap (bit_and x) (sym i ∙ and_comm k m) ∙ sym (and_assoc k x m) ∙ ap (λ (y : ℕ). bit_and y k) q ∙ j))
 
 -- x ≤ b, where v is above b.
 pub at_most_clash : (x b m v : ℕ) → x ≤ b → ltb b v ≡ true → eqb (bit_and x m) v ≡ false

@@ -5,7 +5,7 @@ use Rattle.std.proofs.Common.{sym, ◌∙◌, arith}
 use Rattle.std.proofs.Math.Bool.{not}
 use Rattle.std.proofs.lemmas.Bool.{false≢true}
 use Rattle.std.specs.Int.Bits.{bit_and}
-use Rattle.std.proofs.lemmas.Nat.{and_comm}
+use Rattle.std.proofs.lemmas.Nat.{and_assoc, and_comm}
 use borrow.Author.Tests.{eqb-true, eqb-false, ltb-false, leb-false, ne_eqb, eq-eqb, not-true}
 use Rattle.residue.specs.Tests.{holds}
 use Rattle.residue.specs.inner.Well.{well_formed}
@@ -14,7 +14,7 @@ use Rattle.residue.specs.Residues.{outside, reduced_equal, reduced_differs, from
 use Rattle.residue.specs.inner.Relations.{at_most_of, at_least_of, same_test}
 use Rattle.residue.specs.inner.Relations.{every_left, masked_of, fewer, narrows, repeats, spent}
 use Rattle.residue.specs.laws.Choice.{by_cond, never, both, first, second}
-use Rattle.residue.specs.laws.Bits.{and_assoc, reduced_outside}
+use Rattle.residue.specs.laws.Bits.{reduced_outside}
 use Rattle.residue.specs.laws.Lines.{masked}
 use Rattle.residue.specs.laws.Questions.{covers_self}
 use Rattle.residue.specs.laws.Narrowing.{every_more, keep, settled_every, so_fewer, narrows_case, same_test_eq, residue_narrows}
@@ -134,8 +134,8 @@ covers_back k x m v n w h e =
     let i = eqb-true (bit_and k n) k (first (eqb (bit_and k n) k) (eqb (bit_and w k) x) e) in
     let j = eqb-true (bit_and w k) x (second (eqb (bit_and k n) k) (eqb (bit_and w k) x) e) in
     both (eqb (bit_and k m) k) (eqb (bit_and v k) x)
-    (eq-eqb (bit_and k m) k (ap (λ (y : ℕ). bit_and y m) (sym i) ∙ and_assoc k n m ∙ ap (bit_and k) r.bits ∙ i))
-    (eq-eqb (bit_and v k) x (ap (bit_and v) (sym i ∙ and_comm k n) ∙ sym (and_assoc v n k) ∙ ap (λ (y : ℕ). bit_and y k) r.value ∙ j))
+    (eq-eqb (bit_and k m) k (ap (λ (y : ℕ). bit_and y m) (sym i) ∙ and_assoc m k n ∙ ap (bit_and k) r.bits ∙ i))
+    (eq-eqb (bit_and v k) x (ap (bit_and v) (sym i ∙ and_comm k n) ∙ sym (and_assoc k v n) ∙ ap (λ (y : ℕ). bit_and y k) r.value ∙ j))
 
 -- What a test on fewer bits repeats, the test repeats.
 narrows_repeats : (q t u : Test) → narrows t u ≡ true → repeats q u ≡ true → repeats q t ≡ true
