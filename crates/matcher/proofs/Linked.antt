@@ -7,22 +7,24 @@ use mathlib.Core.List.{List}
 use borrow.Author.Tests.{eqb-true, lt-ltb, lt-leb, not-true}
 use lib.Bits.{bit_and}
 use lib.Dec.{eqb}
+use Rattle.std.specs.Prelude.{Some}
 use Rattle.residue.specs.Tests.{holds}
-use Rattle.residue.specs.declared.Reading.TheVariants.{Value}
 use Rattle.fields.specs.Widths.{field_count}
 use Rattle.fields.specs.Seen.{reading_of}
 use Rattle.fields.specs.declared.Seen.{Seen}
 use Rattle.lists.specs.Filters.{test_of, kind_at, field_at}
 use Rattle.tables.specs.Tables.{word_of}
+use Rattle.tables.specs.inner.Records.{record_at}
 use Rattle.matcher.specs.Walk.{damaged, next_of, onward, walk_from}
+use Rattle.matcher.specs.inner.Records.{word_in}
 use Rattle.matcher.specs.inner.Chains.{links_at, Chained}
-use Rattle.matcher.proofs.Steps.{Walking, window, read, read_word, at_question, mark_stays, way_fails}
+use Rattle.matcher.proofs.Steps.{Walking, word_is, at_question, mark_stays, way_fails}
 
 record Link (t : List ℕ) (n f x next : ℕ) : Type 0 where
-  kind : read t n 0 ≡ 1
-  field : read t n 1 ≡ f
-  misses : eqb (bit_and x (read t n 2)) (read t n 3) ≡ false
-  leads : read t n 5 ≡ next
+  kind : word_in (record_at t n) 0 ≡ 1
+  field : word_in (record_at t n) 1 ≡ f
+  misses : eqb (bit_and x (word_in (record_at t n) 2)) (word_in (record_at t n) 3) ≡ false
+  leads : word_in (record_at t n) 5 ≡ next
 
 all_true :
     (a b c d : Bool) →
@@ -33,24 +35,24 @@ all_true true false c d h = absurd (false≢true h)
 all_true true true false d h = absurd (false≢true h)
 all_true true true true d h = (refl, refl, refl, h)
 
-link : (t : List ℕ) (n f x next : ℕ) → links_at (window t n) f x next ≡ true → Link t n f x next
+link : (t : List ℕ) (n f x next : ℕ) → links_at (record_at t n) f x next ≡ true → Link t n f x next
 unfolding links_at
 link t n f x next e =
-    let hit = eqb (bit_and x (read t n 2)) (read t n 3) in
-    let all = all_true (eqb (read t n 0) 1) (eqb (read t n 1) f) (not hit) (eqb (read t n 5) next) e in
+    let hit = eqb (bit_and x (word_in (record_at t n) 2)) (word_in (record_at t n) 3) in
+    let all = all_true (eqb (word_in (record_at t n) 0) 1) (eqb (word_in (record_at t n) 1) f) (not hit) (eqb (word_in (record_at t n) 5) next) e in
     record {
-      kind = eqb-true (read t n 0) 1 all.0;
-      field = eqb-true (read t n 1) f all.1;
+      kind = eqb-true (word_in (record_at t n) 0) 1 all.0;
+      field = eqb-true (word_in (record_at t n) 1) f all.1;
       misses = not-true hit all.2;
-      leads = eqb-true (read t n 5) next all.3;
+      leads = eqb-true (word_in (record_at t n) 5) next all.3;
     }
 
 module _ {t : List ℕ} {f x n next : ℕ} (small : f < field_count) (l : Link t n f x next) where
   link_kind : word_of t n kind_at ≡ 1
-  link_kind = sym (read_word t n 0 (omega arith)) ∙ l.kind
+  link_kind = sym (word_is t n refl kind_at (omega arith)) ∙ l.kind
 
   link_field : word_of t n field_at ≡ f
-  link_field = sym (read_word t n 1 (omega arith)) ∙ l.field
+  link_field = sym (word_is t n refl field_at (omega arith)) ∙ l.field
 
   link_sound : damaged t n ≡ false
   unfolding damaged
@@ -59,7 +61,7 @@ module _ {t : List ℕ} {f x n next : ℕ} (small : f < field_count) (l : Link t
   link_asks : eqb (word_of t n kind_at) 0 ≡ false
   link_asks = rw link_kind
 
-  link_test : holds (test_of (read t n 0) (read t n 2) (read t n 3)) x ≡ false
+  link_test : holds (test_of (word_in (record_at t n) 0) (word_in (record_at t n) 2) (word_in (record_at t n) 3)) x ≡ false
   unfolding holds test_of
   link_test = rw l.kind l.misses
 
@@ -67,15 +69,15 @@ module _ {t : List ℕ} {f x n next : ℕ} (small : f < field_count) (l : Link t
   link_step :
       (m : ℕ) (v : ℕ → Seen) (a q : ℕ) →
       next < m →
-      reading_of (v f) ≡ Value x →
+      reading_of (v f) ≡ Some x →
       q < a →
       (b : Bool) →
       walk_from t m v (suc q) (a - suc q) b n ≡ walk_from t m v q (a - q) b next
   unfolding onward
   link_step m v a q inside e h b =
-      let reads : reading_of (v (read t n 1)) ≡ Value x = rw l.field e in
-      let way : next_of t v n ≡ next = way_fails t v n x reads link_test ∙ l.leads in
-      rw (way, lt-ltb next m inside, mark_stays t v n x reads b) at (at_question t m v b n a q h link_sound link_asks)
+      let reads : reading_of (v (word_in (record_at t n) 1)) ≡ Some x = rw l.field e in
+      let way : next_of t v n ≡ next = way_fails t v n refl reads link_test ∙ l.leads in
+      rw (way, lt-ltb next m inside, mark_stays t v n refl reads b) at (at_question t m v b n a q h link_sound link_asks)
 
 module _ {t : List ℕ} {m f x l s : ℕ} where
   pub chained_none : s < m → Chained t m f x l s l s
@@ -88,7 +90,7 @@ module _ {t : List ℕ} {m f x l s : ℕ} where
       Chained t m f x l s q n →
       n + 2 * (q - stop) < m →
       stop < q →
-      links_at (window t n) f x (n + 2) ≡ true →
+      links_at (record_at t n) f x (n + 2) ≡ true →
       Chained t m f x l s (q - 1) (n + 2) × (n + 2 + 2 * (q - 1 - stop) < m)
   chained_more {q} {n} stop small c room some e =
       let next : n + 2 < m = omega arith in
@@ -110,7 +112,7 @@ module _ {t : List ℕ} {m f x l s : ℕ} where
 pub walked_on :
     {t : List ℕ} {m : ℕ} {v : ℕ → Seen} {a l : ℕ} {b : Bool} {n f x q n' : ℕ} →
     Walking t m v a l b n →
-    reading_of (v f) ≡ Value x →
+    reading_of (v f) ≡ Some x →
     Chained t m f x l n q n' →
     Walking t m v a q b n'
 walked_on {v = v} {a = a} {b = b} w e c =

@@ -1,32 +1,30 @@
 // A frame is walked through a table (document 01, "Refusal numbers", the paragraph on classifying).
 #![tactic(auto)]
 
-ghost use Rattle.std.specs.Prelude.{◌≡◌, ℕ, ◌+◌, ◌-◌, ◌*◌, ◌<◌, ◌≤◌, length, false};
+ghost use Rattle.std.specs.Prelude.{◌≡◌, ◌<◌, cond, false, ltb, get_or};
 ghost use Rattle.residue.specs.Tests.{holds};
-ghost use Rattle.fields.specs.Header.{Header, present_set};
-ghost use Rattle.fields.specs.inner.Sight.{seen_at};
-ghost use Rattle.fields.specs.inner.Parts.{lacking};
-ghost use Rattle.lists.specs.Filters.{test_of};
-ghost use Rattle.tables.specs.Tables.{record_words, max_slots};
+ghost use Rattle.fields.specs.Header.{HeaderOf, blank};
+ghost use Rattle.fields.specs.Fields.{field};
+ghost use Rattle.fields.specs.Seen.{seen};
+ghost use Rattle.fields.specs.Widths.{field_count};
+ghost use Rattle.fields.specs.inner.Sight.{cut_set};
+ghost use Rattle.lists.specs.Filters.{test_of, kind_at, mask_at, value_at};
 ghost use Rattle.matcher.specs.Walk.{walk_from, walk};
 ghost use Rattle.matcher.specs.inner.Records.{ends_at, end_at, meets};
 ghost use Rattle.matcher.specs.inner.Chains.{links_at, Chained};
-ghost use Rattle.fields.specs.Widths.{field_count};
 
-use fields::{FIELDS, LAST_FIELD, MAX_FRAME, Values};
+use fields::{Header, LAST_FIELD, MAX_FRAME};
 use lists::{AT_LEAST, AT_MOST, DIFFERS, EQUAL};
-use residue::Reading;
+use refusals::Refusal;
 use sets::Set;
 use tables::{
-    ABSENT_AT, FAILS_AT, FIELD_AT, HOLDS_AT, KIND_AT, MASK_AT, MAX_SLOTS, OUT_AT, RECORD_WORDS,
-    SURE_AT, VALUE_AT,
+    ABSENT_AT, FAILS_AT, FIELD_AT, HOLDS_AT, KIND_AT, MASK_AT, OUT_AT, Record, SURE_AT, Table,
+    VALUE_AT,
 };
-
-const MAX_STATES: u32 = MAX_SLOTS as u32;
 
 // What the record shows that a walk ended at: its sure set and its out set; the questions asked; and whether some of them met
 // a cut field.
-#[derive(Clone, Copy)]
+#[derive(Clone, Copy, Debug, PartialEq, Eq)]
 pub struct Found {
     pub sure: Set,
     pub out: Set,
@@ -34,12 +32,38 @@ pub struct Found {
     pub cut: bool,
 }
 
-// The end of a walk: at a final record, or with the allowance used, each with what was found; or refused, with its number.
-#[derive(Clone, Copy)]
-pub enum Answer {
+// The end of a walk: at a final record, or with the allowance used, each with what was found.
+#[derive(Clone, Copy, Debug, PartialEq, Eq)]
+pub enum Walk {
     Done(Found),
     Stopped(Found),
-    Refused(u32),
+}
+
+// A frame, the box port that it came in at and its header, which was read off it.
+#[derive(Clone, Copy)]
+struct Sight<'a> {
+    frame: &'a [u8],
+    port: u8,
+    header: &'a Header,
+    ghost is_read: { HeaderOf frame.now port blank header.now },
+}
+
+impl Sight<'_> {
+    // What the frame has in a field.
+    fn reading(&self, number: u32) -> Option<u32>
+        ensures { result ≡ field self.now.frame.now self.now.port number }
+    {
+        self.header.reading(number)
+    }
+
+    // Whether one of the absent fields that questions met is cut. Most walks meet none, and the frame is not looked at again. Their
+    // set is wider than the set of the fields present so that no bit is made for both, which each question would pay for.
+    #[tactic(auto, using(crate::proofs::Meeting::unmet, fields::proofs::laws::CutSet::cut_set_lem), unfolding(crate::specs::inner::Records::meets))]
+    fn marked(&self, met: u64) -> bool
+        ensures { result ≡ meets (cut_set self.now.frame.now self.now.port) met }
+    {
+        met != 0 && self.header.cut_set(self.frame) as u64 & met != 0
+    }
 }
 
 // Where a walk stands: at record s, with so many questions left of its allowance.
@@ -49,146 +73,110 @@ struct Place {
     left: u32,
 }
 
-// The test that a record's words mean, at a number. A record that was checked has no kind but 1 to 4.
-fn holds_word(kind: u32, mask: u32, value: u32, x: u32) -> bool
-    ensures { result ≡ holds (test_of kind mask value) x }
+// A field that was read, and its value.
+#[derive(Clone, Copy)]
+struct Read {
+    field: u32,
+    x: u32,
+    ghost is_field: { field < field_count },
+}
+
+// Whether the test that a record asks holds of a number. A record that was checked has no kind but 1 to 4. By the record's words: a
+// Test made of them and then asked takes up to 24 instructions more a frame in the bench.
+#[tactic(auto, unfolding(residue::specs::Tests::holds, lists::specs::Filters::test_of))]
+fn holds(words: &Record, x: u32) -> bool
+    ensures { result ≡ holds (test_of (get_or words.now kind_at 0) (get_or words.now mask_at 0) (get_or words.now value_at 0)) x }
 {
-    match kind {
-        EQUAL => x & mask == value,
-        DIFFERS => x & mask != value,
-        AT_MOST => x <= value,
-        _ => value <= x,
+    match words[KIND_AT] {
+        EQUAL => x & words[MASK_AT] == words[VALUE_AT],
+        DIFFERS => x & words[MASK_AT] != words[VALUE_AT],
+        AT_MOST => x <= words[VALUE_AT],
+        _ => words[VALUE_AT] <= x,
     }
 }
 
-// Whether the walk goes no further than a record. Returns in a row, no sum of tests: each is a branch that is seldom taken.
-fn ends(words: &[u32], left: u32) -> bool
-    requires { record_words ≤ length words.now }
+// Whether the walk goes no further than a record. Each test is a branch that is seldom taken.
+#[tactic(auto, unfolding(crate::specs::inner::Records::ends_at))]
+fn ends(words: &Record, left: u32) -> bool
     ensures { result ≡ ends_at words.now left }
 {
     let kind = words[KIND_AT];
-    if kind == 0 {
-        return true;
-    }
-    if AT_LEAST < kind {
-        return true;
-    }
-    if LAST_FIELD < words[FIELD_AT] {
-        return true;
-    }
-    left == 0
+    kind == 0 || AT_LEAST < kind || LAST_FIELD < words[FIELD_AT] || left == 0
 }
 
 // The answer at such a record. Damage comes before the allowance; the field of a final record is not looked at.
-fn end(words: &[u32], asked: u32, cut: bool) -> Answer
-    requires { record_words ≤ length words.now }
+#[tactic(auto, unfolding(crate::specs::inner::Records::end_at, crate::specs::inner::Records::found_in, crate::specs::Walk::arrive))]
+fn end(words: &Record, asked: u32, cut: bool) -> Result<Walk, Refusal>
     ensures { result ≡ end_at words.now asked cut }
 {
-    let sure = tables::set_at(words, SURE_AT);
-    let out = tables::set_at(words, OUT_AT);
     let found = Found {
-        sure,
-        out,
+        sure: tables::set_at(words, SURE_AT),
+        out: tables::set_at(words, OUT_AT),
         asked,
         cut,
     };
     if words[KIND_AT] == 0 {
-        return Answer::Done(found);
+        return Ok(Walk::Done(found));
     }
-    if (AT_LEAST < words[KIND_AT]) | (LAST_FIELD < words[FIELD_AT]) {
-        return Answer::Refused(13);
+    if AT_LEAST < words[KIND_AT] || LAST_FIELD < words[FIELD_AT] {
+        return Err(Refusal::Table);
     }
-    Answer::Stopped(found)
+    Ok(Walk::Stopped(found))
 }
 
-// Whether a record asks the field by an equality that misses x and leads to record next.
-fn links(words: &[u32], field: u32, x: u32, next: u32) -> bool
-    requires { record_words ≤ length words.now }
-    ensures { result ≡ links_at words.now field x next }
+// Whether a record asks the field by an equality that misses its value and leads to record next.
+#[tactic(auto, unfolding(crate::specs::inner::Chains::links_at))]
+fn links(words: &Record, read: Read, next: u32) -> bool
+    ensures { result ≡ links_at words.now read.field read.x next }
 {
-    if words[KIND_AT] != EQUAL {
-        return false;
-    }
-    if words[FIELD_AT] != field {
-        return false;
-    }
-    if x & words[MASK_AT] == words[VALUE_AT] {
-        return false;
-    }
-    words[FAILS_AT] == next
+    words[KIND_AT] == EQUAL
+        && words[FIELD_AT] == read.field
+        && read.x & words[MASK_AT] != words[VALUE_AT]
+        && words[FAILS_AT] == next
 }
 
-// What a chain from record s on leaves of the questions at the least: each link takes one and leads two further, none beyond the states.
-fn least_left(s: u32, left: u32, states: u32) -> u32
-    requires { s < states }
-    ensures { s + 2 * (left - result) < states }
+// Passes such links from a place on, each two further than the one before, with a question each, and none beyond the states. A table
+// that asks one field for many values is a chain of them; adding two goes on without waiting for the next number of each.
+fn chain(table: &Table, from: Place, read: Read) -> Place
+    requires { from.s < table.now.states }
+    ensures { Chained table.now.words.now table.now.states read.field read.x from.left from.s result.left result.s }
 {
-    let most = (states - 1 - s) / 2;
-    if most < left { left - most } else { 0 }
-}
-
-// Passes such links from a place on, each two further than the one before, with a question each. A table that asks one field for
-// many values is a chain of them; adding two goes on without waiting for the next number of each.
-fn chain(table: &[u32], from: Place, field: u32, x: u32, states: u32) -> Place
-    requires from_in_range { from.s < states }
-    requires few { states ≤ max_slots }
-    requires in_bounds { record_words * states ≤ length table.now }
-    requires is_field { field < field_count }
-    ensures { Chained table.now states field x from.left from.s result.left result.s }
-{
-    let mut s = from.s;
-    let mut left = from.left;
-    let stop = least_left(s, left, states);
-    while stop < left {
-        let b = RECORD_WORDS * s as usize;
-        if !links(&table[b..b + RECORD_WORDS], field, x, s + 2) {
-            return Place { s, left };
-        }
-        s += 2;
-        left -= 1;
-    }
-    Place { s, left }
-}
-
-// The place behind record s, which failed to next. A chain is looked for only where that is two further on: in most tables it seldom is.
-fn follow(table: &[u32], s: u32, next: u32, field: u32, x: u32, states: u32, left: u32) -> Place
-    requires { (s < states) × ((next < states) × ((states ≤ max_slots) × ((record_words * states ≤ length table.now) × (field < field_count)))) }
-    ensures { Chained table.now states field x left next result.left result.s }
-{
-    let place = Place { s: next, left };
-    if next == s + 2 {
-        return chain(table, place, field, x, states);
+    let mut place = from;
+    let stop = place.left.saturating_sub((table.states - 1 - place.s) / 2);
+    while stop < place.left && links(table.record(place.s), read, place.s + 2) {
+        place.s += 2;
+        place.left -= 1;
     }
     place
 }
 
-// Whether one of the absent fields that questions met is cut. Most walks meet none, and the frame is not looked at again. Their
-// set is wider than the present set so that no bit is made for both, which each question would pay for.
-fn marked(frame: &[u8], present: u32, met: u64) -> bool
-    requires { (p : ℕ) × (present ≡ present_set frame.now p) }
-    ensures { result ≡ meets (lacking frame.now present) met }
+// The place behind one whose question failed and led to next. A chain is looked for only where that is two further on: in most tables it seldom is.
+fn follow(table: &Table, at: Place, next: u32, read: Read) -> Place
+    requires inside { at.s < table.now.states }
+    requires next_inside { next < table.now.states }
+    ensures { Chained table.now.words.now table.now.states read.field read.x at.left next result.left result.s }
 {
-    if met == 0 {
-        return false;
+    let place = Place { s: next, ..at };
+    if next == at.s + 2 {
+        return chain(table, place, read);
     }
-    fields::cut_set(frame, present) as u64 & met != 0
+    place
 }
 
-// The walk from record 0 on, over a header that was read. Each way has its own load and its own test:
+// A next number of which the table has a record.
+fn inside(table: &Table, next: u32) -> Result<u32, Refusal>
+    ensures { result ≡ cond (ltb next table.now.states) (Ok next) (Err Refusal.Table) }
+{
+    if table.states <= next {
+        return Err(Refusal::Table);
+    }
+    Ok(next)
+}
+
+// The walk from record 0 on. Each way has its own load and its own test:
 // one `next` for all ways would make each record wait for the one before it.
-fn walk_from(
-    frame: &[u8],
-    present: u32,
-    values: &Values,
-    table: &[u32],
-    states: u32,
-    allowance: u32,
-) -> Answer
-    requires begins { 0 < states }
-    requires few { states ≤ max_slots }
-    requires in_bounds { record_words * states ≤ length table.now }
-    requires is_read { (p : ℕ) × (present ≡ present_set frame.now p) }
-    ensures { result ≡ walk_from table.now states (seen_at present (lacking frame.now present) values.now) allowance 0 false 0 }
+fn walk_from(sight: &Sight, table: &Table, allowance: u32) -> Result<Walk, Refusal>
+    ensures { result ≡ walk_from table.now.words.now table.now.states (seen sight.now.frame.now sight.now.port) allowance 0 false 0 }
 {
     let mut at = Place {
         s: 0,
@@ -196,71 +184,47 @@ fn walk_from(
     };
     let mut met: u64 = 0;
     loop {
-        let b = RECORD_WORDS * at.s as usize;
-        let words = &table[b..b + RECORD_WORDS];
+        let words = table.record(at.s);
         if ends(words, at.left) {
-            return end(words, allowance - at.left, marked(frame, present, met));
+            return end(words, allowance - at.left, sight.marked(met));
         }
         at.left -= 1;
-        let Reading::Value(x) = fields::reading_at(present, values, words[FIELD_AT]) else {
-            met = met | (1u64 << words[FIELD_AT]);
-            at.s = words[ABSENT_AT];
-            if states <= at.s {
-                return Answer::Refused(13);
-            }
+        let Some(x) = sight.reading(words[FIELD_AT]) else {
+            met |= 1 << words[FIELD_AT];
+            at.s = inside(table, words[ABSENT_AT])?;
             continue;
         };
-        if holds_word(words[KIND_AT], words[MASK_AT], words[VALUE_AT], x) {
-            at.s = words[HOLDS_AT];
-            if states <= at.s {
-                return Answer::Refused(13);
-            }
+        if holds(words, x) {
+            at.s = inside(table, words[HOLDS_AT])?;
             continue;
         }
-        let next = words[FAILS_AT];
-        if states <= next {
-            return Answer::Refused(13);
-        }
-        at = follow(table, at.s, next, words[FIELD_AT], x, states, at.left);
+        let next = inside(table, words[FAILS_AT])?;
+        let field = words[FIELD_AT];
+        at = follow(table, at, next, Read { field, x });
     }
 }
 
-// A header as `fields::read_header` reads it. Each of its steps is short enough that the compiler puts a copy of it here; all of them
-// together, which others call too, would be a call.
-fn read_header(frame: &[u8], port: u8, values: &mut Values) -> u32
-    ensures { Header frame.now port values.old values.new result }
-{
-    let begun = fields::read_ethernet(frame, port, values);
-    let packet = begun.packet;
-    let set = fields::read_internet(frame, packet, begun.present, values);
-    fields::read_transport(frame, packet, set, values)
-}
-
-// The answer for any frame, table and number of states. The number is held to the table's words by a product, which needs no division.
-fn walk_frame(frame: &[u8], port: u8, table: &[u32], states: u32, allowance: u32) -> Answer
+// The answer for any frame, words of a table and number of states.
+#[tactic(auto, unfolding(crate::specs::Walk::walk))]
+pub fn classify(
+    frame: &[u8],
+    port: u8,
+    table: &[u32],
+    states: u32,
+    allowance: u32,
+) -> Result<Walk, Refusal>
     ensures { result ≡ walk frame.now port table.now states allowance }
 {
     if MAX_FRAME < frame.len() {
-        return Answer::Refused(12);
+        return Err(Refusal::LongFrame);
     }
-    if states == 0 {
-        return Answer::Refused(13);
-    }
-    if MAX_STATES < states {
-        return Answer::Refused(13);
-    }
-    if table.len() < RECORD_WORDS * states as usize {
-        return Answer::Refused(13);
-    }
-    let mut values = [0u32; FIELDS];
-    let present = read_header(frame, port, &mut values);
-    walk_from(frame, present, &values, table, states, allowance)
-}
-
-// The same, as a call. Frame and table are lent anew: the compiler hands a slice over in registers only to a function that takes parts of
-// it and does not pass it on.
-pub fn classify(frame: &[u8], port: u8, table: &[u32], states: u32, allowance: u32) -> Answer
-    ensures { result ≡ walk frame.now port table.now states allowance }
-{
-    walk_frame(&frame[..], port, &table[..], states, allowance)
+    let table = Table::new(table, states).ok_or(Refusal::Table)?;
+    let mut header = Header::new();
+    header.read(frame, port);
+    let sight = Sight {
+        frame,
+        port,
+        header: &header,
+    };
+    walk_from(&sight, &table, allowance)
 }

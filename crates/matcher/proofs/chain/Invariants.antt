@@ -5,8 +5,9 @@ use Prim.Native.Nat.{◌+◌, ◌-◌, ◌*◌, ◌<◌}
 use Rattle.matcher.specs.inner.Chains.{Chained}
 use Rattle.matcher.proofs.chain.Given as goal
 
-abbrev pub invariant-loop-left : goal.invariant-loop-left
-invariant-loop-left l = Chained l.table l.states l.field l.x l.initial.left l.initial.s l.left l.s × (l.s + 2 * (l.left - l.stop) < l.states)
+abbrev pub invariant-loop-place : goal.invariant-loop-place
+invariant-loop-place l =
+    Chained l.table.words.now l.table.states l.read.field l.read.x l.fn.from.left l.fn.from.s l.place.left l.place.s × (l.place.s + 2 * (l.place.left - l.stop) < l.table.states)
 
-abbrev pub decreases-loop-left : goal.decreases-loop-left
-decreases-loop-left l = l.left
+abbrev pub decreases-loop-place : goal.decreases-loop-place
+decreases-loop-place l = l.place.left

@@ -1,9 +1,8 @@
 -- Equalities on one field in a row, each failing to the record two further on: the shape of a table for many values of one field.
 --   links_at w f x n          a record with the words w asks the field f by an equality, which misses x, and fails to record n
 --   Chained t m f x l s q n  where field f reads x, the walk from record s with l questions left goes on from record n with q left
-use Rattle.std.specs.Prelude.{ℕ, ◌-◌, ◌≤◌, ◌<◌, ◌≡◌, Bool, not, ◌&&◌, List, eqb}
+use Rattle.std.specs.Prelude.{ℕ, ◌-◌, ◌≤◌, ◌<◌, ◌≡◌, Bool, not, ◌&&◌, List, eqb, Some}
 use Rattle.std.specs.Int.Bits.{bit_and}
-use Rattle.residue.specs.declared.Reading.TheVariants.{Value}
 use Rattle.fields.specs.Seen.{reading_of}
 use Rattle.fields.specs.declared.Seen.{Seen}
 use Rattle.lists.specs.Filters.{kind_equal, kind_at, field_at, mask_at, value_at}
@@ -24,7 +23,7 @@ pub record Chained (t : List ℕ) (m f x l s q n : ℕ) : Type 0 where
   pub inside : n < m
   pub same :
       (v : ℕ → Seen) →
-      reading_of (v f) ≡ Value x →
+      reading_of (v f) ≡ Some x →
       (a : ℕ) →
       l ≤ a →
       (b : Bool) →

@@ -3,15 +3,14 @@
 --   meets c s      two sets have a field in common
 --   found_in w k b  what such a record shows, with k questions asked, of which some met a cut field where b says so
 --   end_at w k b    what the walk then answers
-use Rattle.std.specs.Prelude.{ℕ, ◌-◌, Bool, not, ◌&&◌, ◌||◌, List, leb, ltb, eqb, get_or}
+use Rattle.std.specs.Prelude.{ℕ, ◌-◌, Bool, not, ◌&&◌, ◌||◌, List, leb, ltb, eqb, get_or, Ok}
 use Rattle.std.specs.Int.Bits.{bit_and}
 use Rattle.fields.specs.Widths.{field_count}
 use Rattle.lists.specs.Filters.{kind_at_least, kind_at, field_at}
 use Rattle.tables.specs.Tables.{sure_at, out_at, set_at}
 use Rattle.matcher.specs.declared.Found.{Found}
-use Rattle.matcher.specs.declared.Answer.{Answer}
-use Rattle.matcher.specs.declared.Answer.TheVariants.{Done, Stopped}
-use Rattle.matcher.specs.Walk.{arrive}
+use Rattle.matcher.specs.declared.Walk.TheVariants.{Done, Stopped}
+use Rattle.matcher.specs.Walk.{Answer, arrive}
 
 abbrev pub last_field : ℕ
 last_field = field_count - 1
@@ -32,5 +31,5 @@ unfoldable pub end_at : List ℕ → ℕ → Bool → Answer
 end_at w k b =
     arrive (ltb kind_at_least (word_in w kind_at) || (not (eqb (word_in w kind_at) 0) && leb field_count (word_in w field_at)))
     (eqb (word_in w kind_at) 0)
-    (Done (found_in w k b))
-    (Stopped (found_in w k b))
+    (Ok (Done (found_in w k b)))
+    (Ok (Stopped (found_in w k b)))
