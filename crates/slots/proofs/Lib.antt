@@ -1,7 +1,7 @@
+pub mod Chunks
 pub mod Cutting
 pub mod Parts
-pub mod Sets
 pub mod Questions
 pub mod Sameness
-pub mod Stepping
+pub mod Sets
 pub mod Starting

@@ -1,38 +1,37 @@
 -- The first filter that has a test to ask, looked for from the front.
 -- Assumes nothing.
-use Prim.Native.Nat.{ℕ, ◌+◌, ◌*◌, ◌-◌, ◌≤◌, ◌<◌}
-use mathlib.Core.Path.{◌≡◌, sym, ap, ◌∙◌}
-use mathlib.Core.Bool.{Bool, true, false, not, ◌&&◌}
-use mathlib.Core.List.{List, [], ◌∷◌}
-use native.Mathlib.Nat.{add-zero}
-use native.Mathlib.Omega.{arith}
-use lib.Dec.{eqb}
-use lib.ListN.{get_or, drop}
-use lib.Seq.{get_or-drop}
+use Rattle.std.specs.Prelude.{ℕ, zero, suc, ◌<◌, ◌≡◌, refl, Bool, true, false, not, ◌&&◌, cond, List, [], ◌∷◌, eqb, get_or, take, drop, find, Option, None, Some}
+use Rattle.std.specs.Simd.{first_chunks}
+use Rattle.std.proofs.Common.{ap, arith}
+use Rattle.std.proofs.lemmas.List.{get_or-take}
 use Rattle.slots.specs.Words.{filter_slot}
 use Rattle.slots.specs.inner.Words.{out_mark}
 use Rattle.slots.specs.inner.Slots.{has_test, four_words, question_in}
-use Rattle.slots.proofs.Parts.{one_less, next_drop}
 
-abbrev pub asks : ℕ → Bool
-asks k = not (eqb k 0) && not (eqb k out_mark)
+-- What is asked where this is the first filter that has a test.
+abbrev pub asked_of : Option (List ℕ) → List ℕ
+asked_of None = 0 ∷ 0 ∷ 0 ∷ 0 ∷ []
+asked_of (Some f) = four_words f
 
-has_test_lem : (w : List ℕ) (a : ℕ) → has_test (drop a w) ≡ asks (get_or w a 0)
+front : (w : List ℕ) (i : ℕ) → i < filter_slot → get_or (take filter_slot w) i 0 ≡ get_or w i 0
+front w i h = get_or-take filter_slot w i 0 h
+
+same_test : (w : List ℕ) → has_test (take filter_slot w) ≡ has_test w
 unfolding has_test
-has_test_lem w a = ap asks (get_or-drop a w 0 0 ∙ ap (λ (k : ℕ). get_or w k 0) (add-zero a))
+same_test w = ap (λ (k : ℕ). not (eqb k 0) && not (eqb k out_mark)) (front w 0 (omega arith))
 
-pub question_here : (n i : ℕ) (w : List ℕ) → i < n → asks (get_or w (filter_slot * i) 0) ≡ true
-    → question_in (n - i) (drop (filter_slot * i) w) ≡ get_or w (filter_slot * i) 0 ∷ get_or w (filter_slot * i + 1) 0 ∷ get_or w (filter_slot * i + 2) 0 ∷ get_or w (filter_slot * i + 3) 0 ∷ []
-unfolding question_in four_words
-question_here n i w h t =
-    let a = filter_slot * i in
-    rw (one_less n i h, has_test_lem w (filter_slot * i), t, get_or-drop a w 0 0, get_or-drop a w 1 0, get_or-drop a w 2 0, get_or-drop a w 3 0, add-zero (filter_slot * i))
+same_four : (w : List ℕ) → four_words (take filter_slot w) ≡ four_words w
+unfolding four_words
+same_four w = rw (front w 0 (omega arith), front w 1 (omega arith), front w 2 (omega arith), front w 3 (omega arith)) refl
 
-pub question_more : (n i : ℕ) (w : List ℕ) → i < n → asks (get_or w (filter_slot * i) 0) ≡ false
-    → question_in (n - i) (drop (filter_slot * i) w) ≡ question_in (n - (i + 1)) (drop (filter_slot * (i + 1)) w)
+pub question_found : (n : ℕ) (w : List ℕ) → asked_of (find has_test (first_chunks filter_slot n w)) ≡ question_in n w
 unfolding question_in
-question_more n i w h t = rw (one_less n i h, has_test_lem w (filter_slot * i), t) (ap (question_in (n - (i + 1))) (sym (next_drop i w)))
+question_found zero w = refl
+question_found (suc n) w = rw (← same_test w) (go (has_test (take filter_slot w)) (question_found n (drop filter_slot w)))
+  where
+    later : Option (List ℕ)
+    later = find has_test (first_chunks filter_slot n (drop filter_slot w))
 
-pub question_none : (n i : ℕ) (w : List ℕ) → n ≤ i → question_in (n - i) w ≡ 0 ∷ 0 ∷ 0 ∷ 0 ∷ []
-unfolding question_in
-question_none n i w h = let z : n - i ≡ 0 = omega arith in rw z
+    go : (b : Bool) → asked_of later ≡ question_in n (drop filter_slot w) → asked_of (cond b (Some (take filter_slot w)) later) ≡ cond b (four_words w) (question_in n (drop filter_slot w))
+    go true h = same_four w
+    go false h = h

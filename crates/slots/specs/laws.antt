@@ -1,3 +1,4 @@
+pub mod Counting
 pub mod Fitting
 pub mod Reading
 pub mod Written

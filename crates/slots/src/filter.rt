@@ -1,149 +1,130 @@
 // One filter's words.
-ghost use Rattle.std.specs.Prelude.{◌≡◌, ◌+◌, ◌*◌, ◌≤◌, length, take, drop, ◌∷◌, []};
-ghost use Rattle.lists.specs.Filters.{test_words, item_of, items_of};
-ghost use Rattle.lists.specs.Words.{item_words};
-ghost use Rattle.states.specs.States.{cut_standing, left};
+ghost use Rattle.std.specs.Prelude.{◌≡◌, ◌+◌, ◌-◌, ◌≤◌, ◌++◌, length, replicate};
+ghost use Rattle.lists.specs.Filters.{test_words, item_of};
+ghost use Rattle.lists.specs.Words.{item_words, test_list};
+ghost use Rattle.states.specs.States.{cut_standing};
 ghost use Rattle.slots.specs.Words.{filter_slot};
-ghost use Rattle.slots.specs.inner.Words.{items_words, out_words, written_filter, read_filter};
-ghost use Rattle.slots.specs.inner.Steps.{over, cleared_from, item, left_of, Room, Kept, Two, Cut, Tests};
+ghost use Rattle.slots.specs.inner.Words.{out_words, written_filter, read_filter};
+ghost use Rattle.slots.specs.inner.Steps.{over, item, left_of, finish, Room, Kept, Cut};
 
 use crate::FILTER_WORDS;
-use lists::{MAX_TESTS, TEST_WORDS, field_at, test_at};
-use residue::{Fact, Residue, Test};
+use lists::{TEST_WORDS, TestWords};
+use residue::{Residue, Test};
 
 // The first word of a filter that is out (specs/Words): no kind.
 pub const OUT: u32 = lists::AT_LEAST + 1;
-// A place beyond every filter's words.
-const PAST_END: usize = FILTER_WORDS + 1;
 
-// Four words from a place on.
-fn put_words(dst: &mut [u32], at: usize, kind: u32, field: u32, mask: u32, value: u32)
-    requires { at + test_words ≤ length dst.old }
-    ensures { dst.new ≡ over at (kind ∷ field ∷ mask ∷ value ∷ []) dst.old }
+// The words of a test; at most and at least have no mask.
+#[tactic(auto, unfolding(lists::specs::Words::item_words, lists::specs::Words::kind_of, lists::specs::Words::mask_of, lists::specs::Words::value_of))]
+fn words_of(field: u32, test: Test) -> TestWords
+    ensures { test_list result ≡ item_words (item field test) }
 {
-    dst[at] = kind;
-    dst[at + lists::FIELD_AT] = field;
-    dst[at + lists::MASK_AT] = mask;
-    dst[at + lists::VALUE_AT] = value;
-}
-
-// The words of a test from a place on; at most and at least have no mask.
-pub fn put_test(dst: &mut [u32], at: usize, field: u32, test: Test)
-    requires { at + test_words ≤ length dst.old }
-    ensures { dst.new ≡ over at (item_words (item field test)) dst.old }
-{
-    match test {
-        Test::Equal(m, v) => put_words(dst, at, lists::EQUAL, field, m, v),
-        Test::Differs(m, v) => put_words(dst, at, lists::DIFFERS, field, m, v),
-        Test::AtMost(v) => put_words(dst, at, lists::AT_MOST, field, 0, v),
-        Test::AtLeast(v) => put_words(dst, at, lists::AT_LEAST, field, 0, v),
+    let (kind, mask, value) = match test {
+        Test::Equal(m, v) => (lists::EQUAL, m, v),
+        Test::Differs(m, v) => (lists::DIFFERS, m, v),
+        Test::AtMost(v) => (lists::AT_MOST, 0, v),
+        Test::AtLeast(v) => (lists::AT_LEAST, 0, v),
+    };
+    TestWords {
+        kind,
+        field,
+        mask,
+        value,
     }
 }
 
-// Zeros from a place on; nothing where the place lies beyond the words.
-pub fn clear_from(dst: &mut [u32], from: usize)
-    ensures { dst.new ≡ cleared_from from dst.old }
+// The words of a test from a place on. With copy_from_slice a cut takes a sixth longer (measured) than with four stores.
+#[tactic(auto, using(crate::proofs::Cutting::put_four))]
+fn put_words(dst: &mut [u32], at: usize, words: TestWords)
+    requires { at + test_words ≤ length dst.old }
+    ensures { dst.new ≡ over at (test_list words) dst.old }
 {
-    let mut i = from;
-    while i < dst.len() {
-        dst[i] = 0;
-        i += 1;
-    }
+    dst[at] = words.kind;
+    dst[at + lists::FIELD_AT] = words.field;
+    dst[at + lists::MASK_AT] = words.mask;
+    dst[at + lists::VALUE_AT] = words.value;
 }
 
 // A filter that is out: the mark, zeros behind.
+#[tactic(auto, using(crate::proofs::Cutting::out_after))]
 pub fn set_out(dst: &mut [u32])
     requires { length dst.old ≡ filter_slot }
     ensures { dst.new ≡ out_words }
 {
     dst[0] = OUT;
-    clear_from(dst, 1);
+    dst[1..].fill(0);
 }
 
-// What a fact about a field leaves of the test at a place of the words.
-fn left_of(src: &[u32], at: usize, field: u32, fact: Fact) -> Residue
-    requires { at + test_words ≤ length src.now }
-    ensures { result ≡ left_of field fact (item_of (drop at src.now)) }
+// What a fact about a field leaves of a test.
+#[tactic(auto, unfolding(crate::specs::inner::Steps::left_of, lists::specs::Filters::item_of))]
+fn left_of(words: TestWords, field: u32, fact: Option<Test>) -> Residue
+    ensures { result ≡ left_of field fact (item_of (test_list words)) }
 {
-    let test = test_at(src, at);
-    if field_at(src, at) == field {
-        residue::residue_of(fields::full_of(field), fact, test)
+    if words.field == field {
+        residue::residue_of(fields::full_of(field), fact, words.test())
     } else {
-        Residue::Left(test)
+        Residue::Left(words.test())
     }
 }
 
-// One more test behind those kept so far: where the next one goes, or a place beyond the words where the filter is out.
-fn put_rest(dst: &mut [u32], end: usize, field: u32, rest: Residue) -> usize
+// One more test behind those kept so far: where the next one goes, or none where the filter is out.
+#[tactic(auto, unfolding(crate::specs::inner::Steps::kept_words, crate::specs::inner::Steps::kept_at))]
+fn put_rest(dst: &mut [u32], end: usize, field: u32, rest: Residue) -> Option<usize>
     requires { Room end dst.old }
     ensures { Kept end field rest dst.old dst.new result }
 {
     match rest {
-        Residue::True => end,
-        Residue::False => {
-            set_out(dst);
-            PAST_END
-        }
+        Residue::True => Some(end),
+        Residue::False => None,
         Residue::Left(test) => {
-            put_test(dst, end, field, test);
-            end + TEST_WORDS
+            put_words(dst, end, words_of(field, test));
+            Some(end + TEST_WORDS)
         }
     }
 }
 
-// What a fact leaves of each test, closed up at the front; the place behind the last of them.
-fn cut_tests(src: &[u32], dst: &mut [u32], field: u32, fact: Fact) -> usize
-    requires { Two src.now dst.old }
+// What a fact leaves of each test, closed up at the front: the place behind the last of them, or none where the filter is out.
+fn cut_tests(
+    src: &[u32; FILTER_WORDS],
+    dst: &mut [u32],
+    field: u32,
+    fact: Option<Test>,
+) -> Option<usize>
+    requires { length dst.old ≡ filter_slot }
     ensures { Cut field fact src.now dst.new result }
 {
-    let mut test: usize = 0;
-    let mut end: usize = 0;
-    while test < MAX_TESTS {
-        let at = TEST_WORDS * test;
-        if src[at] == 0 {
-            return end;
-        }
-        end = put_rest(dst, end, field_at(src, at), left_of(src, at, field, fact));
-        if FILTER_WORDS < end {
-            return end;
-        }
-        test += 1;
+    if src[0] == OUT {
+        return None;
     }
-    end
+    let mut end: usize = 0;
+    for test in src.as_chunks::<TEST_WORDS>().0 {
+        let words = TestWords::at(test, 0);
+        if words.kind == 0 {
+            return Some(end);
+        }
+        end = put_rest(dst, end, words.field, left_of(words, field, fact))?;
+    }
+    Some(end)
 }
 
 // What a fact about a field leaves of one filter.
-pub fn cut_filter(src: &[u32], dst: &mut [u32], field: u32, fact: Fact)
-    requires { Two src.now dst.old }
+#[tactic(auto, unfolding(crate::specs::inner::Steps::finish))]
+pub fn cut_filter(src: &[u32; FILTER_WORDS], dst: &mut [u32], field: u32, fact: Option<Test>)
+    requires { length dst.old ≡ filter_slot }
     ensures { dst.new ≡ written_filter (cut_standing field fact (read_filter src.now)) }
 {
-    if src[0] == OUT {
-        set_out(dst);
-    } else {
-        let end = cut_tests(src, dst, field, fact);
-        clear_from(dst, end);
+    match cut_tests(src, dst, field, fact) {
+        Some(end) => dst[end..].fill(0),
+        None => set_out(dst),
     }
 }
 
-// So many tests of a list, from a place on, in front of a filter's words.
-fn put_tests(list: &[u32], at: usize, count: usize, dst: &mut [u32])
-    requires { Tests at count list.now dst.old }
-    ensures { take (test_words * count) dst.new ≡ items_words (items_of count (drop at list.now)) }
+// A filter at the start: the words of its tests, zeros behind.
+pub fn fill(tests: &[u32], dst: &mut [u32])
+    requires few { length tests.now ≤ filter_slot }
+    requires one { length dst.old ≡ filter_slot }
+    ensures { dst.new ≡ tests.now ++ replicate (filter_slot - length tests.now) 0 }
 {
-    let mut test: usize = 0;
-    while test < count {
-        let to = TEST_WORDS * test;
-        let from = at + to;
-        put_test(dst, to, field_at(list, from), test_at(list, from));
-        test += 1;
-    }
-}
-
-// A filter at the start: all its tests, zeros behind.
-pub fn fill(list: &[u32], at: usize, count: usize, dst: &mut [u32])
-    requires { Tests at count list.now dst.old }
-    ensures { dst.new ≡ written_filter (left (items_of count (drop at list.now))) }
-{
-    put_tests(list, at, count, dst);
-    clear_from(dst, TEST_WORDS * count);
+    dst[..tests.len()].copy_from_slice(tests);
+    dst[tests.len()..].fill(0);
 }

@@ -1,18 +1,21 @@
 // A state as the words of one slot: as many words for each filter, its remaining tests first, zeros behind (specs/Words).
-// n is the number of filters; the slices hold the words of exactly these.
+// A state's slice holds the words of its filters and of nothing else.
 #![tactic(auto)]
 
-ghost use Rattle.std.specs.Prelude.{◌≡◌, cond, ◌∷◌, [], map, ◌*◌, ◌-◌, ◌≤◌, length};
+ghost use Rattle.std.specs.Prelude.{◌≡◌, cond, map, length, find};
+ghost use Rattle.std.specs.Option.{option_copied};
+ghost use Rattle.std.specs.Simd.{first_chunks};
 ghost use Rattle.lists.specs.Filters.{filters_of, item_of};
+ghost use Rattle.lists.specs.Words.{test_list};
 ghost use Rattle.states.specs.States.{all_left};
 ghost use Rattle.slots.specs.Words.{filter_slot};
 ghost use Rattle.slots.specs.inner.Words.{out_words, written};
-ghost use Rattle.slots.specs.inner.Slots.{held_set, out_set_in, sure_set_in, closed_in, closed_words, question_in, cut_words, step_question, start_words, same_words};
-ghost use Rattle.slots.specs.inner.Steps.{marked_set, StateWords, Ranked, Both, Stepped, Starts};
+ghost use Rattle.slots.specs.inner.Slots.{held_set, out_set_in, sure_set_in, closed_in, closed_words, question_in, cut_words, step_question, start_words, same_words, has_test};
+ghost use Rattle.slots.specs.inner.Steps.{filters_in, marked_set, StateWords, Both, Starts};
 
 use filter::OUT;
-use lists::{HEAD_WORDS, MAX_FILTERS, MAX_TESTS, TEST_WORDS};
-use residue::{Fact, Outcome};
+use lists::{HEAD_WORDS, MAX_FILTERS, MAX_TESTS, TEST_WORDS, TestWords};
+use residue::{Outcome, Test};
 use sets::Set;
 
 mod filter;
@@ -24,221 +27,172 @@ pub const SLOT_WORDS: usize = MAX_FILTERS * FILTER_WORDS;
 // The first word of a held filter.
 const HELD: u32 = 0;
 
-// The words of a test; all 0 where there is none to ask.
-#[derive(Clone, Copy)]
-pub struct Query {
-    pub kind: u32,
-    pub field: u32,
-    pub mask: u32,
-    pub value: u32,
+// The words of each filter of a state.
+fn filters(state: &[u32]) -> &[[u32; FILTER_WORDS]]
+    ensures words { result.now ≡ first_chunks filter_slot (filters_in state.now) state.now }
+    ensures count { length result.now ≡ filters_in state.now }
+{
+    state.as_chunks().0
 }
 
 // The filters whose first word is a mark.
-fn marked(w: &[u32], n: usize, mark: u32) -> Set
-    requires { StateWords n w.now }
-    ensures { result ≡ marked_set n mark w.now }
+#[tactic(auto, using(crate::proofs::Sets::filter_marks))]
+fn marked(state: &[u32], mark: u32) -> Set
+    requires { StateWords state.now }
+    ensures { result ≡ marked_set (filters_in state.now) mark state.now }
 {
-    let mut set: Set = 0;
-    let mut i: usize = 0;
-    while i < n {
-        set = sets::put(set, i as u32, w[FILTER_WORDS * i] == mark);
-        i += 1;
+    let mut set = sets::EMPTY;
+    for (i, filter) in filters(state).iter().enumerate() {
+        set = sets::put(set, i as u32, filter[0] == mark);
     }
     set
 }
 
-pub fn held_set(w: &[u32], n: usize) -> Set
-    requires { StateWords n w.now }
-    ensures { result ≡ held_set n w.now }
+// The held filters.
+#[tactic(auto, unfolding(crate::specs::inner::Slots::held_set, crate::specs::inner::Steps::marked_set))]
+pub fn held_set(state: &[u32]) -> Set
+    requires { StateWords state.now }
+    ensures { result ≡ held_set (filters_in state.now) state.now }
 {
-    marked(w, n, HELD)
+    marked(state, HELD)
 }
 
-pub fn out_set(w: &[u32], n: usize) -> Set
-    requires { StateWords n w.now }
-    ensures { result ≡ out_set_in n w.now }
+// The filters that are out.
+#[tactic(auto, unfolding(crate::specs::inner::Slots::out_set_in, crate::specs::inner::Steps::marked_set))]
+pub fn out_set(state: &[u32]) -> Set
+    requires { StateWords state.now }
+    ensures { result ≡ out_set_in (filters_in state.now) state.now }
 {
-    marked(w, n, OUT)
-}
-
-// A filter's words, made out unless it stays.
-fn stay(w: &mut [u32], stays: bool)
-    requires { length w.old ≡ filter_slot }
-    ensures { w.new ≡ cond stays w.old out_words }
-{
-    if !stays {
-        filter::set_out(w);
-    }
+    marked(state, OUT)
 }
 
 // Each filter that ranks below one of the held set made out.
-fn close_by(w: &mut [u32], n: usize, ranks: &[Set], held: Set)
-    requires { Ranked n ranks.now w.old }
-    ensures { w.new ≡ closed_in n ranks.now held 0 w.old }
+fn close_by(state: &mut [u32], ranks: &[Set; MAX_FILTERS], held: Set)
+    requires { StateWords state.old }
+    ensures { state.new ≡ closed_in (filters_in state.old) ranks.now held 0 state.old }
 {
-    let mut i: usize = 0;
-    while i < n {
-        let from = FILTER_WORDS * i;
-        let to = from + FILTER_WORDS;
-        let stays = ranks[i] & held == 0;
-        stay(&mut w[from..to], stays);
-        i += 1;
+    // By index: of a slice that chunks_exact_mut lent a proof knows the length alone.
+    for i in 0..state.len() / FILTER_WORDS {
+        if ranks[i] & held != 0 {
+            let at = FILTER_WORDS * i;
+            filter::set_out(&mut state[at..at + FILTER_WORDS]);
+        }
     }
 }
 
 // Each filter that ranks below a held one made out. Of most states no filter is held.
-pub fn close(w: &mut [u32], n: usize, ranks: &[Set])
-    requires { Ranked n ranks.now w.old }
-    ensures { w.new ≡ closed_words n ranks.now w.old }
+#[tactic(auto, using(crate::proofs::Parts::closed_by_none), unfolding(crate::specs::inner::Slots::closed_words))]
+pub fn close(state: &mut [u32], ranks: &[Set; MAX_FILTERS])
+    requires { StateWords state.old }
+    ensures { state.new ≡ closed_words (filters_in state.old) ranks.now state.old }
 {
-    let held = held_set(w, n);
-    if held == 0 {
+    let held = held_set(state);
+    if held == sets::EMPTY {
         return;
     }
-    close_by(w, n, ranks, held);
+    close_by(state, ranks, held);
 }
 
 // What a fact about a field leaves of each filter.
-fn cut_all(src: &[u32], dst: &mut [u32], n: usize, field: u32, fact: Fact)
-    requires { Both n src.now dst.old }
-    ensures { dst.new ≡ cut_words n field fact src.now }
+fn cut_all(src: &[u32], dst: &mut [u32], field: u32, fact: Option<Test>)
+    requires { Both src.now dst.old }
+    ensures { dst.new ≡ cut_words (filters_in src.now) field fact src.now }
 {
-    let mut i: usize = 0;
-    while i < n {
-        let from = FILTER_WORDS * i;
-        let to = from + FILTER_WORDS;
-        filter::cut_filter(&src[from..to], &mut dst[from..to], field, fact);
-        i += 1;
+    // Written by index: of a slice that chunks_exact_mut lent a proof knows the length alone.
+    for (i, filter) in filters(src).iter().enumerate() {
+        let at = FILTER_WORDS * i;
+        filter::cut_filter(filter, &mut dst[at..at + FILTER_WORDS], field, fact);
     }
 }
 
 // Held, and every filter that ranks above it is in the out set.
-pub fn sure_set(w: &[u32], n: usize, ranks: &[Set], out: Set) -> Set
-    requires ranked { Ranked n ranks.now w.now }
-    requires out_value { out ≡ out_set_in n w.now }
-    ensures { result ≡ sure_set_in n ranks.now w.now }
+#[tactic(auto, using(crate::proofs::Sets::sure_marks))]
+pub fn sure_set(state: &[u32], ranks: &[Set; MAX_FILTERS], out: Set) -> Set
+    requires whole { StateWords state.now }
+    requires out_value { out ≡ out_set_in (filters_in state.now) state.now }
+    ensures { result ≡ sure_set_in (filters_in state.now) ranks.now state.now }
 {
-    let mut set: Set = 0;
-    let mut i: usize = 0;
-    while i < n {
-        let sure = (w[FILTER_WORDS * i] == HELD) & (ranks[i] & !out == 0);
+    let mut set = sets::EMPTY;
+    for (i, filter) in filters(state).iter().enumerate() {
+        let sure = (filter[0] == HELD) & (ranks[i] & !out == 0);
         set = sets::put(set, i as u32, sure);
-        i += 1;
     }
     set
 }
 
-// The first test of the first filter that has any.
-pub fn question_of(w: &[u32], n: usize) -> Query
-    requires { StateWords n w.now }
-    ensures { result.kind ∷ result.field ∷ result.mask ∷ result.value ∷ [] ≡ question_in n w.now }
+// Whether a filter has tests left: its first word is then the kind of the first.
+#[tactic(auto, unfolding(crate::specs::inner::Slots::has_test))]
+fn has_test(filter: &[u32; FILTER_WORDS]) -> bool
+    ensures { result ≡ has_test filter.now }
 {
-    let mut i: usize = 0;
-    while i < n {
-        let at = FILTER_WORDS * i;
-        let kind = w[at];
-        if (kind != HELD) & (kind != OUT) {
-            return Query {
-                kind,
-                field: w[at + lists::FIELD_AT],
-                mask: w[at + lists::MASK_AT],
-                value: w[at + lists::VALUE_AT],
-            };
-        }
-        i += 1;
-    }
-    Query {
-        kind: 0,
-        field: 0,
-        mask: 0,
-        value: 0,
+    (filter[0] != HELD) & (filter[0] != OUT)
+}
+
+// The first filter that has tests left.
+fn asking(state: &[u32]) -> Option<&[u32; FILTER_WORDS]>
+    ensures { option_copied result ≡ find has_test (first_chunks filter_slot (filters_in state.now) state.now) }
+{
+    filters(state).iter().find(|filter| has_test(filter))
+}
+
+// The first test of the first filter that has any.
+pub fn question_of(state: &[u32]) -> TestWords
+    ensures { test_list result ≡ question_in (filters_in state.now) state.now }
+{
+    match asking(state) {
+        Some(filter) => TestWords::at(filter, 0),
+        None => TestWords::default(),
     }
 }
 
 // The state after a question, of src or any other, came to an outcome.
+#[tactic(auto, unfolding(crate::specs::inner::Slots::step_question, lists::specs::Filters::item_of))]
 pub fn step_by(
     src: &[u32],
     dst: &mut [u32],
-    n: usize,
-    ranks: &[Set],
-    asked: Query,
+    ranks: &[Set; MAX_FILTERS],
+    asked: TestWords,
     outcome: Outcome,
 )
-    requires { Stepped n ranks.now src.now dst.old }
-    ensures { dst.new ≡ step_question n ranks.now outcome (item_of (asked.kind ∷ asked.field ∷ asked.mask ∷ asked.value ∷ [])) src.now }
+    requires { Both src.now dst.old }
+    ensures { dst.new ≡ step_question (filters_in src.now) ranks.now outcome (item_of (test_list asked)) src.now }
 {
     let field = asked.field;
-    let test = lists::test_of(asked.kind, asked.mask, asked.value);
-    let fact = residue::fact_of(fields::full_of(field), outcome, test);
-    cut_all(src, dst, n, field, fact);
-    close(dst, n, ranks);
+    let fact = residue::fact_of(fields::full_of(field), outcome, asked.test());
+    cut_all(src, dst, field, fact);
+    close(dst, ranks);
 }
 
-// The same words. It looks at all of them: a loop that can't be left early is compiled to compare several at a time.
-fn same_words(a: &[u32], b: &[u32]) -> bool
-    requires { length a.now ≡ length b.now }
-    ensures { result ≡ same_words a.now b.now }
-{
-    let mut same = true;
-    let mut at: usize = 0;
-    while at < a.len() {
-        same = same & (a[at] == b[at]);
-        at += 1;
-    }
-    same
-}
-
-// Where the filter begins whose words end at a place.
-fn filter_before(end: usize) -> usize
-    ensures { result ≡ end - filter_slot }
-{
-    if end < FILTER_WORDS {
-        0
-    } else {
-        end - FILTER_WORDS
-    }
-}
-
-// The same words, from the last filter back: stored states mostly differ near the end of the list.
+// The same words.
+#[tactic(auto, using(crate::proofs::Sameness::same_pointwise))]
 pub fn same(a: &[u32], b: &[u32]) -> bool
-    requires { length a.now ≡ length b.now }
     ensures { result ≡ same_words a.now b.now }
 {
-    let mut passed: usize = 0;
-    while passed < a.len() {
-        let end = a.len() - passed;
-        let at = filter_before(end);
-        if !same_words(&a[at..end], &b[at..end]) {
-            return false;
-        }
-        passed += FILTER_WORDS;
-    }
-    true
+    a == b
 }
 
 // Every filter of an accepted list with all its tests. A filter begins where the one before it ends.
-fn fill_all(list: &[u32], dst: &mut [u32], n: usize)
-    requires { Starts n list.now dst.old }
+fn fill_all(list: &[u32], dst: &mut [u32])
+    requires { Starts list.now dst.old }
     ensures { dst.new ≡ written (map all_left (filters_of list.now)) }
 {
-    let mut at: usize = 0;
-    let mut i: usize = 0;
-    while i < n {
-        let from = FILTER_WORDS * i;
-        let to = from + FILTER_WORDS;
-        let count = lists::count_at(list, at);
-        filter::fill(list, at + HEAD_WORDS, count as usize, &mut dst[from..to]);
-        at += lists::filter_words(count);
-        i += 1;
+    let mut begin: usize = 0;
+    // By index: of a slice that chunks_exact_mut lent a proof knows the length alone.
+    for i in 0..dst.len() / FILTER_WORDS {
+        let tests = begin + HEAD_WORDS;
+        let end = begin + lists::filter_words(lists::count_at(list, begin));
+        let at = FILTER_WORDS * i;
+        filter::fill(&list[tests..end], &mut dst[at..at + FILTER_WORDS]);
+        begin = end;
     }
 }
 
-// The start of an accepted list of n filters.
-pub fn start_into(list: &[u32], dst: &mut [u32], n: usize, ranks: &[Set])
-    requires starts { Starts n list.now dst.old }
-    requires n_in_bounds { n ≤ length ranks.now }
-    ensures { dst.new ≡ start_words n ranks.now list.now }
+// The start of an accepted list.
+#[tactic(auto, unfolding(crate::specs::inner::Slots::start_words))]
+pub fn start_into(list: &[u32], dst: &mut [u32], ranks: &[Set; MAX_FILTERS])
+    requires { Starts list.now dst.old }
+    ensures { dst.new ≡ start_words (filters_in dst.old) ranks.now list.now }
 {
-    fill_all(list, dst, n);
-    close(dst, n, ranks);
+    fill_all(list, dst);
+    close(dst, ranks);
 }

@@ -1,33 +1,21 @@
--- `slots::close_by` meets its contract. The loop's invariant: the words up to filter i, then the rest closed, are the whole.
+-- `slots::close_by` meets its contract: the words up to filter i, then the rest closed, are the whole.
 -- Assumes nothing.
-use native.Mathlib.Nat.{sub-zero}
-use Rattle.slots.proofs.Parts.{part_long, close_turn, closed_none, lent_long, room, done}
-use Rattle.slots.specs.inner.Slots.{closed_in}
+use Rattle.std.proofs.Common.{◌*◌, arith, drop}
 use Rattle.slots.specs.Words.{filter_slot}
-use lib.ListN.{take, drop}
-use native.Mathlib.Omega.{arith}
-use mathlib.Core.List.{◌++◌}
-use mathlib.Core.Path.{sym, ap, ◌∙◌}
-use Prim.Native.Nat.{◌*◌}
+use Rattle.slots.specs.inner.Steps.{filters_in}
+use Rattle.slots.proofs.Parts.{close_out, close_stays, closed_none, done}
 use Rattle.slots.proofs.close_by.Goals as goal
-
-pub loop-i-init : goal.loop-i-init
-loop-i-init c = (omega arith, c.requires.whole, ap (λ m. closed_in m c.args.ranks.now c.args.held 0 c.args.w.now) (sub-zero c.args.n))
-
-pub stay-requires : goal.stay-requires
-stay-requires c = part_long (filter_slot * c.loop-i.i) c.loop-i.w (room c.loop-i.i c.args.n c.loop-i.w c.loop-i-test.true c.loop-i.invariant.1)
+use Rattle.slots.proofs.close_by.Goals.{then-ranks-i-ne0, else-ranks-i-ne0}
 
 pub loop-i-preserved : goal.loop-i-preserved
-loop-i-preserved c = let r = room c.loop-i.i c.args.n c.loop-i.w c.loop-i-test.true c.loop-i.invariant.1 in
-    let m = c.stay.auto.w ∙ part_long (filter_slot * c.loop-i.i) c.loop-i.w r in (
-      omega arith,
-      lent_long c.loop-i.i c.loop-i.w c.stay.new.w r m ∙ c.loop-i.invariant.1,
-      close_turn c.args.n c.loop-i.i c.args.ranks.now c.args.held c.loop-i.w c.stay.new.w (closed_in c.args.n c.args.ranks.now c.args.held 0 c.args.w.now) c.loop-i-test.true c.loop-i.invariant.1 m c.stay.ensures c.loop-i.invariant.2,
-    )
-
-pub shape_of-w : goal.shape_of-w
-shape_of-w c = c.loop-i.invariant.1 ∙ sym c.requires.whole
+loop-i-preserved c =
+    let n = filters_in c.args.state.now in
+    elim c.if-ranks-i-ne0.branch [
+      | then-ranks-i-ne0 w ↦ rw w.state-is (close_out n c.loop-i.i c.args.ranks.now c.args.held c.loop-i.state _ (omega arith) (omega arith) c.loop-i.invariant w.set_out.new.dst w.if-ranks-i-ne0.true (omega arith) w.set_out.ensures)
+      | else-ranks-i-ne0 w ↦ rw w.state-is (close_stays n c.loop-i.i c.args.ranks.now c.args.held c.loop-i.state _ (omega arith) (omega arith) c.loop-i.invariant w.if-ranks-i-ne0.false)
+    ]
 
 pub returns : goal.returns
-returns c = done c.args.n c.loop-i.i c.loop-i.w (closed_in c.args.n c.args.ranks.now c.args.held 0 c.args.w.now) c.loop-i.invariant.1 c.loop-i-test.false
-    (ap (λ x. take (filter_slot * c.loop-i.i) c.loop-i.w ++ x) (sym (closed_none c.args.n c.loop-i.i c.args.ranks.now c.args.held (drop (filter_slot * c.loop-i.i) c.loop-i.w) c.loop-i-test.false)) ∙ c.loop-i.invariant.2)
+returns c =
+    done (filters_in c.args.state.now) c.loop-i.i c.loop-i.state _ _ (omega arith) (omega arith)
+    (closed_none (filters_in c.args.state.now) c.loop-i.i c.args.ranks.now c.args.held (drop (filter_slot * c.loop-i.i) c.loop-i.state) (omega arith)) c.loop-i.invariant

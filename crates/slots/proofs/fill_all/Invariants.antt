@@ -2,17 +2,18 @@
 -- Assumes nothing.
 use Rattle.slots.specs.Words.{filter_slot}
 use Rattle.slots.specs.inner.Words.{written}
+use Rattle.slots.specs.inner.Steps.{filters_in}
 use Rattle.states.specs.States.{all_left}
 use Rattle.lists.specs.Filters.{filters_of}
 use Rattle.lists.specs.laws.Walking.{At}
-use lib.ListN.{length, take, drop}
+use lib.ListN.{take, drop}
 use mathlib.Core.List.{◌++◌, map}
 use mathlib.Core.Path.{◌≡◌}
-use Prim.Native.Nat.{◌≤◌, ◌*◌, ◌-◌}
+use Prim.Native.Nat.{◌*◌}
 use Rattle.slots.proofs.fill_all.Given as goal
 
 abbrev pub invariant-loop-i : goal.invariant-loop-i
-invariant-loop-i l = (l.i ≤ l.n) × (length l.dst ≡ filter_slot * l.n) × At l.list l.n l.i l.at × (take (filter_slot * l.i) l.dst ++ written (map all_left (drop l.i (filters_of l.list))) ≡ written (map all_left (filters_of l.list)))
-
-abbrev pub decreases-loop-i : goal.decreases-loop-i
-decreases-loop-i l = l.n - l.i
+invariant-loop-i l = record {
+  stands : At l.list (filters_in l.initial.dst) l.i l.begin;
+  whole : take (filter_slot * l.i) l.dst ++ written (map all_left (drop l.i (filters_of l.list))) ≡ written (map all_left (filters_of l.list));
+}

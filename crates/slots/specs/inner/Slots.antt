@@ -9,11 +9,10 @@
 --   step_words n ranks o w  the slot after the question of w came to o
 --   start_words n ranks ws  the start of the list ws
 --   same_words a b          the same words
-use Rattle.std.specs.Prelude.{ℕ, zero, suc, ◌+◌, ◌*◌, Bool, true, false, cond, not, ◌&&◌, List, [], ◌∷◌, ◌++◌, map, eqb, get_or, take, drop}
+use Rattle.std.specs.Prelude.{ℕ, zero, suc, ◌+◌, ◌*◌, Bool, true, false, cond, not, ◌&&◌, List, [], ◌∷◌, ◌++◌, map, eqb, get_or, take, drop, Option}
 use Rattle.std.specs.Int.Bits.{bit_and}
 use Rattle.residue.specs.Facts.{fact_of}
 use Rattle.residue.specs.Residues.{outside}
-use Rattle.residue.specs.declared.Fact.{Fact}
 use Rattle.residue.specs.declared.Outcome.{Outcome}
 use Rattle.fields.specs.Widths.{full}
 use Rattle.sets.specs.Sets.{set_of, tally}
@@ -21,6 +20,7 @@ use Rattle.lists.specs.Filters.{Item, kind_at, field_at, mask_at, value_at, item
 use Rattle.states.specs.States.{cut_standing, all_left}
 use Rattle.slots.specs.Words.{filter_slot}
 use Rattle.slots.specs.inner.Words.{out_mark, out_words, written_filter, written, read_filter}
+use Rattle.residue.specs.declared.Test.{Test}
 
 unfoldable pub head_of : List ℕ → ℕ → ℕ
 head_of w i = get_or w (filter_slot * i) 0
@@ -57,7 +57,7 @@ question_in (suc n) w = cond (has_test w) (four_words w) (question_in n (drop fi
 unfoldable pub asks_in : ℕ → List ℕ → Bool
 asks_in n w = not (eqb (get_or (question_in n w) 0 0) 0)
 
-unfoldable pub cut_words : ℕ → ℕ → Fact → List ℕ → List ℕ
+unfoldable pub cut_words : ℕ → ℕ → Option Test → List ℕ → List ℕ
 cut_words zero f k w = []
 cut_words (suc n) f k w = written_filter (cut_standing f k (read_filter (take filter_slot w))) ++ cut_words n f k (drop filter_slot w)
 

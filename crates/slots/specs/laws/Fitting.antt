@@ -1,9 +1,8 @@
 -- States that fit a slot: no filter has more remaining tests than there is room for. The start of an accepted list fits, and each step keeps it so.
 --   fits_standing x, fits_slot s   at most 8 tests remain, of one filter and of each
-use Rattle.std.specs.Prelude.{ℕ, ◌+◌, ◌≤◌, ◌≡◌, refl, Bool, true, cond, ◌&&◌, List, [], ◌∷◌, map, leb, length}
+use Rattle.std.specs.Prelude.{ℕ, ◌+◌, ◌≤◌, ◌≡◌, refl, Bool, true, cond, ◌&&◌, List, [], ◌∷◌, map, leb, length, Option}
 use Rattle.std.proofs.Common.{arith, leb-true, le-leb}
 use Rattle.residue.specs.laws.Choice.{both, first, second}
-use Rattle.residue.specs.declared.Fact.{Fact}
 use Rattle.residue.specs.declared.Outcome.{Outcome}
 use Rattle.lists.specs.Filters.{Item, Filter, max_tests}
 use Rattle.lists.specs.inner.Well.{well_filter, well_filters}
@@ -11,6 +10,7 @@ use Rattle.lists.specs.laws.Accepted.{well_few}
 use Rattle.states.specs.States.{Standing, out, State, cut_standing, beaten, closed_from, closed, all_left, start, step_by}
 use Rattle.states.specs.inner.Remaining.{remaining_in}
 use Rattle.states.proofs.laws.Measure.{cut_standing_le, closed_le}
+use Rattle.residue.specs.declared.Test.{Test}
 
 unfoldable pub fits_standing : Standing → Bool
 fits_standing x = leb (remaining_in x) max_tests
@@ -31,7 +31,7 @@ le_fits x y l e = le-leb (remaining_in x) max_tests (omega (arith, leb-true (rem
 
 -- ---- all filters
 
-pub fits_cut : (n : ℕ) (k : Fact) (s : State) → fits_slot s ≡ true → fits_slot (map (cut_standing n k) s) ≡ true
+pub fits_cut : (n : ℕ) (k : Option Test) (s : State) → fits_slot s ≡ true → fits_slot (map (cut_standing n k) s) ≡ true
 unfolding fits_slot
 fits_cut n k [] e = refl
 fits_cut n k (x ∷ s) e =

@@ -3,7 +3,7 @@
 -- Sets: held_written, out_written, sure_written. Steps: closed_written, cut_written, by_written, step_written, next_written, start_written, start_accepted.
 -- Questions: question_written, asks_written, length_question. Sameness: same_words_eq, same_words_refl, same_written.
 use Prim.Native.Nat.{ℕ, zero, suc, ◌+◌, ◌*◌, ◌-◌, ◌^◌, ◌≤◌, ◌<◌}
-use Rattle.std.specs.Prelude.{◌≡◌, true, false, ◌&&◌, length, get_or, drop}
+use Rattle.std.specs.Prelude.{◌≡◌, true, false, ◌&&◌, length, get_or, drop, Option, Ok}
 use Rattle.std.proofs.Math.Path.{refl, ap, ap₂}
 use Rattle.std.proofs.Common.{sym, ◌∙◌, not-suc-le-zero, le_of_suc-le-suc, arith, get_or-append-add, eqb-true, eq-eqb}
 use Rattle.std.proofs.Math.Bool.{Bool, cond, not}
@@ -17,7 +17,6 @@ use Rattle.residue.specs.laws.Bits.{and_not}
 use Rattle.residue.specs.laws.Choice.{both, first, second, same_bool}
 use Rattle.residue.specs.Facts.{fact_of}
 use Rattle.residue.specs.Residues.{outside}
-use Rattle.residue.specs.declared.Fact.{Fact}
 use Rattle.residue.specs.declared.Outcome.{Outcome}
 use Rattle.fields.specs.Widths.{full}
 use Rattle.sets.specs.Sets.{set_of, tally, some}
@@ -26,8 +25,7 @@ use Rattle.lists.specs.Filters.{Item, Filter, max_filters, test_words, item_of, 
 use Rattle.lists.specs.Ranks.{above, rank_sets}
 use Rattle.lists.specs.Words.{item_words}
 use Rattle.lists.specs.inner.Well.{well_filters}
-use Rattle.lists.specs.Refusals.{listed}
-use Rattle.lists.specs.declared.Listed.TheVariants.{Accepted}
+use Rattle.lists.specs.Refusals.{listed, counts}
 use Rattle.lists.specs.laws.Accepted.{accepted_count, accepted_well}
 use Rattle.lists.specs.laws.Items.{kind_some, item_round}
 use Rattle.lists.specs.laws.Ranking.{get_or_rank_sets, rank_set_in, rank_set_clear}
@@ -40,6 +38,7 @@ use Rattle.slots.specs.inner.Words.{out_mark, items_words, out_words, written_fi
 use Rattle.slots.specs.inner.Slots.{head_of, held_set, out_set_in, sure_set_in, closed_in, closed_words, has_test, four_words, question_in, asks_in, cut_words, step_question, step_words, start_words, same_words}
 use Rattle.slots.specs.laws.Fitting.{fits_standing, fits_slot, fits_cut, fits_all}
 use Rattle.slots.specs.laws.Reading.{length_filter, take_filter, drop_filter, held_word, out_word, kind_mark, read_filter_lem, written_injective}
+use Rattle.residue.specs.declared.Test.{Test}
 
 -- ---- sets
 
@@ -133,7 +132,7 @@ unfolding question_words item_words asks
 asks_words nothing = refl
 asks_words (ask q) = ap not (kind_some q.test)
 
-cut_from : (f : ℕ) (k : Fact) (s : State) → fits_slot s ≡ true → cut_words (length s) f k (written s) ≡ written (map (cut_standing f k) s)
+cut_from : (f : ℕ) (k : Option Test) (s : State) → fits_slot s ≡ true → cut_words (length s) f k (written s) ≡ written (map (cut_standing f k) s)
 unfolding cut_words written fits_slot
 cut_from f k [] e = refl
 cut_from f k (x ∷ s) e =
@@ -154,7 +153,7 @@ module _ (m : ℕ) (s : State) (l : length s ≡ m) (fit : fits_slot s ≡ true)
   unfolding asks_in
   asks_written = ap (λ (w : List ℕ). not (eqb (get_or w 0 0) 0)) question_written ∙ asks_words (question_of s)
 
-  pub cut_written : (f : ℕ) (k : Fact) → cut_words m f k (written s) ≡ written (map (cut_standing f k) s)
+  pub cut_written : (f : ℕ) (k : Option Test) → cut_words m f k (written s) ≡ written (map (cut_standing f k) s)
   cut_written f k = ap (λ (x : ℕ). cut_words x f k (written s)) (sym l) ∙ cut_from f k s fit
 
 -- ---- a step, the start
@@ -198,7 +197,7 @@ unfolding start_words start
 start_written ws few well =
     closed_written (filters_of ws) (map all_left (filters_of ws)) (length-map (filters_of ws) all_left) few (fits_all (filters_of ws) well)
 
-pub start_accepted : (ws : List ℕ) (m t : ℕ) → listed ws ≡ Accepted m t → start_words m (rank_sets (filters_of ws)) ws ≡ written (start (filters_of ws))
+pub start_accepted : (ws : List ℕ) (m t : ℕ) → listed ws ≡ Ok (counts m t) → start_words m (rank_sets (filters_of ws)) ws ≡ written (start (filters_of ws))
 start_accepted ws m t e =
     let c = accepted_count ws m t e in
     ap (λ (k : ℕ). start_words k (rank_sets (filters_of ws)) ws) (sym c.0) ∙ start_written ws (omega arith) (accepted_well ws m t e)

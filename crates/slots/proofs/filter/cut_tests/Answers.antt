@@ -1,42 +1,56 @@
--- `slots::filter::cut_tests` meets its contract. The loop's invariant: what is kept, finished with what the rest leaves, is the whole.
+-- `slots::filter::cut_tests` meets its contract: what is kept, finished with what the rest leaves, is the whole.
 -- Assumes nothing.
-use Rattle.residue.specs.declared.Fact.{Fact}
-use mathlib.Core.List.{List}
-use Prim.Native.Nat.{ℕ}
-use Rattle.slots.proofs.Cutting.{rest, rest_stop, rest_end, finished_start, finished_end, turn_out, turn_again}
-use Rattle.slots.specs.inner.Steps.{finished}
-use Rattle.slots.specs.inner.Words.{written_filter, read_items}
-use Rattle.states.specs.States.{cut}
-use Rattle.lists.specs.Filters.{max_tests}
-use native.Mathlib.Omega.{arith}
-use mathlib.Core.Path.{◌≡◌, ap, sym, ◌∙◌}
+use Rattle.std.proofs.Common.{◌≡◌, ◌*◌, ◌<◌, drop, ◌∙◌, arith}
+use Rattle.lists.specs.Filters.{test_words, max_tests}
+use Rattle.lists.specs.Words.{words_of}
+use Rattle.slots.specs.inner.Steps.{finish}
+use Rattle.slots.proofs.Cutting.{words_at, ahead_start, ahead_out, ahead_stop, ahead_within, ahead_turn, ahead_none, ahead_end}
 use Rattle.slots.proofs.filter.cut_tests.Goals as goal
+use Rattle.slots.proofs.filter.cut_tests.Goals.{After-at-words}
 
-abbrev Whole : ℕ → Fact → List ℕ → List ℕ
-Whole n k src = written_filter (cut n k (read_items max_tests src))
+-- Where the loop stands there is a test, and its words are read.
+more : (c : After-at-words) → c.loop-test.test-index < max_tests
+more c = omega (arith, c.as_chunks.ensures.front_len, c.told-src)
+
+here : (c : After-at-words) → c.at-words.result ≡ words_of (drop (test_words * c.loop-test.test-index) c.args.src.now)
+here c = c.at-words.ensures ∙ words_at c.args.src.now c.as_chunks.result.0.now c.loop-test.test-index c.told-src c.as_chunks.ensures.front (more c)
+
+pub returns-then-src-eq-OUT : goal.returns-then-src-eq-OUT
+unfolding finish
+returns-then-src-eq-OUT c = record { words = ahead_out _ _ _ c.if-src-eq-OUT.true; within = tt }
 
 pub loop-test-init : goal.loop-test-init
-loop-test-init c = (c.requires.target, omega arith, omega arith, finished_start c.args.dst.now (cut c.args.field c.args.fact (read_items max_tests c.args.src.now)))
+loop-test-init c = record { within = omega arith; whole = ahead_start _ _ _ _ c.if-src-eq-OUT.false }
 
-pub shape_of-dst-then-src-at-eq0 : goal.shape_of-dst-then-src-at-eq0
-shape_of-dst-then-src-at-eq0 c = c.loop-test.invariant.0 ∙ sym c.requires.target
+pub returns-then-words-eq0 : goal.returns-then-words-eq0
+unfolding finish
+returns-then-words-eq0 c =
+    let at = (goal.at.returns-then-words-eq0 c).After-at-words in
+    record {
+      words = ahead_stop _ _ _ c.loop-test.test-index _ _ c.at-words.result (c.loop-test.auto.dst ∙ c.requires) (more at) (here at) c.if-words-eq0.true ∙ c.loop-test.invariant.whole;
+      within = omega (arith, more at);
+    }
 
-pub returns-then-src-at-eq0 : goal.returns-then-src-at-eq0
-returns-then-src-at-eq0 c = record { words = finished_end c.loop-test.end c.loop-test.dst c.loop-test.invariant.0 ∙ ap (finished c.loop-test.end c.loop-test.dst) (sym (rest_stop c.args.field c.args.fact c.args.src.now c.loop-test.test c.loop-test-test.true c.if-src-at-eq0.true)) ∙ c.loop-test.invariant.3 }
-
-pub shape_of-dst-then-end-gt-FILTER_WORDS : goal.shape_of-dst-then-end-gt-FILTER_WORDS
-shape_of-dst-then-end-gt-FILTER_WORDS c = c.put_rest-end.auto.dst ∙ c.loop-test.invariant.0 ∙ sym c.requires.target
-
-pub returns-then-end-gt-FILTER_WORDS : goal.returns-then-end-gt-FILTER_WORDS
-returns-then-end-gt-FILTER_WORDS c = record { words = turn_out c.args.field c.args.fact c.args.src.now c.loop-test.dst c.put_rest-end.new.dst c.loop-test.test c.loop-test.end c.put_rest-end.result c.field_at.result c.left_of.result (Whole c.args.field c.args.fact c.args.src.now) c.loop-test-test.true c.if-src-at-eq0.false c.loop-test.invariant.0 c.loop-test.invariant.2 c.field_at.ensures c.left_of.ensures c.put_rest-end.ensures c.loop-test.invariant.3 c.if-end-gt-FILTER_WORDS.true }
+pub returns-in_err-end : goal.returns-in_err-end
+unfolding finish
+returns-in_err-end c =
+    let at = (goal.at.returns-in_err-end c).After-at-words in
+    let out = ahead_none _ _ _ _ _ _ _ (c.loop-test.auto.dst ∙ c.requires) (more at) (here at) c.if-words-eq0.false c.loop-test.invariant.within _ _ c.left_of.ensures c.in_err-end.ensures in
+    rw c.from_residual.ensures (record { words = out ∙ c.loop-test.invariant.whole; within = tt })
 
 pub loop-test-preserved : goal.loop-test-preserved
-loop-test-preserved c = turn_again c.args.field c.args.fact c.args.src.now c.loop-test.dst c.put_rest-end.new.dst c.loop-test.test c.loop-test.end c.put_rest-end.result c.field_at.result c.left_of.result (Whole c.args.field c.args.fact c.args.src.now)
-    c.loop-test-test.true c.if-src-at-eq0.false c.loop-test.invariant.0 c.loop-test.invariant.2 c.field_at.ensures c.left_of.ensures c.put_rest-end.ensures c.loop-test.invariant.3 c.if-end-gt-FILTER_WORDS.false
-
-pub shape_of-dst : goal.shape_of-dst
-shape_of-dst c = c.loop-test.invariant.0 ∙ sym c.requires.target
+loop-test-preserved c =
+    let at = (goal.at.loop-test-preserved c).After-at-words in
+    let one = c.loop-test.auto.dst ∙ c.requires in
+    record {
+      within = ahead_within _ _ _ _ _ _ _ one (more at) (here at) c.if-words-eq0.false c.loop-test.invariant.within _ _ c.left_of.ensures _ c.in_ok-end.ensures;
+      whole = ahead_turn _ _ _ _ _ _ _ one (more at) (here at) c.if-words-eq0.false c.loop-test.invariant.within _ _ c.left_of.ensures _ c.in_ok-end.ensures ∙ c.loop-test.invariant.whole;
+    }
 
 pub returns : goal.returns
-returns c = let e : c.loop-test.test ≡ max_tests = omega arith in
-    record { words = finished_end c.loop-test.end c.loop-test.dst c.loop-test.invariant.0 ∙ ap (finished c.loop-test.end c.loop-test.dst) (sym (ap (rest c.args.field c.args.fact c.args.src.now) e ∙ rest_end c.args.field c.args.fact c.args.src.now)) ∙ c.loop-test.invariant.3 }
+unfolding finish
+returns c =
+    record {
+      words = ahead_end _ _ _ c.loop-test.test-index _ _ (c.loop-test.auto.dst ∙ c.requires) (omega (arith, c.as_chunks.ensures.front_len, c.told-src)) ∙ c.loop-test.invariant.whole;
+      within = omega (arith, c.as_chunks.ensures.front_len, c.told-src);
+    }
