@@ -6,14 +6,14 @@ use mathlib.Core.List.{List, [], ◌++◌, map}
 use native.Mathlib.Omega.{arith}
 use borrow.Rule.Slice.PartMut.{put_mid}
 use lib.ListN.{length, take, drop, replicate, length-drop}
-use lib.Seq.{drop-drop, take-add}
+use lib.Seq.{take-add}
 use Rattle.std.specs.Prelude.{Ok}
-use Rattle.lists.specs.Filters.{Item, Filter, max_filters, head_words, test_words, count_word, items_of, filter_of, filters_of}
-use Rattle.lists.specs.Refusals.{test_fault, tests_fault, listed_from}
+use Rattle.lists.specs.Filters.{Item, Filter, head_words, test_words, count_word, items_of, filter_of, filters_of}
+use Rattle.lists.specs.Refusals.{test_fault, tests_fault}
 use Rattle.lists.specs.Words.{words_of}
-use Rattle.lists.specs.laws.Faults.{NoFault, first_parts}
+use Rattle.lists.specs.laws.Faults.{first_parts}
 use Rattle.lists.specs.laws.Items.{words_round}
-use Rattle.lists.specs.laws.Walking.{At, at_here, at_rest, at_end, accepted_head}
+use Rattle.lists.specs.laws.Walking.{Rest, rest_sound, rest_below, rest_filter, rest_end}
 use Rattle.states.specs.States.{left, all_left}
 use Rattle.slots.specs.Words.{filter_slot}
 use Rattle.slots.specs.inner.Words.{items_words, written_filter, written}
@@ -36,26 +36,19 @@ items_kept (suc n) ws l e =
 
 -- ---- all filters
 
-module _ (list : List ℕ) (n i at : ℕ) (few : n ≤ max_filters) (here : At list n i at) (h : i < n) where
-  -- The filter that begins here has no fault.
-  sound : NoFault (drop at list)
-  sound =
-      let more : max_filters - i ≡ suc (max_filters - i - 1) = omega arith in
-      accepted_head (max_filters - i - 1) i here.accepted.0 n here.accepted.1 (drop at list)
-      (omega (arith, length-drop at list, (at_here list n i at here h).head))
-      (ap (λ (m : ℕ). listed_from m i here.accepted.0 (drop at list)) (sym more) ∙ here.accepted.2)
-
+-- The filter that the words r begin with, number i of an accepted list.
+module _ (list : List ℕ) (n i : ℕ) (r : List ℕ) (here : Rest list n i r) (h : 0 < length r) where
   -- The words of its tests, and the tests.
   abbrev words : List ℕ
-  words = take (test_words * count_word (drop at list)) (drop (at + head_words) list)
+  words = take (test_words * count_word r) (drop head_words r)
 
   abbrev tests : List Item
-  tests = items_of (count_word (drop at list)) (drop (at + head_words) list)
+  tests = items_of (count_word r) (drop head_words r)
 
   kept : words ≡ items_words tests
   kept =
-      items_kept (count_word (drop at list)) (drop (at + head_words) list) (omega (arith, length-drop (at + head_words) list, (at_here list n i at here h).whole))
-      (ap (tests_fault (count_word (drop at list))) (sym (drop-drop head_words at list)) ∙ sound.tests)
+      let sound = rest_sound list n i r here h in
+      items_kept (count_word r) (drop head_words r) (omega (arith, length-drop head_words r, sound.whole)) sound.tests
 
   -- The words of the tests in front of zeros are what is written of the filter.
   filter_start : (ws : List ℕ) → ws ≡ words → ws ++ replicate (filter_slot - length ws) 0 ≡ written_filter (left tests)
@@ -66,18 +59,19 @@ module _ (list : List ℕ) (n i at : ℕ) (few : n ≤ max_filters) (here : At l
 
   filters_here : written (map all_left (drop i (filters_of list))) ≡ written_filter (left tests) ++ written (map all_left (drop (i + 1) (filters_of list)))
   unfolding written all_left filter_of
-  filters_here =
-      ap (λ (fs : List Filter). written (map all_left fs)) (at_rest list n i at here h) ∙
-      ap (λ (ws : List ℕ). written_filter (left (items_of (count_word (drop at list)) ws)) ++ written (map all_left (drop (i + 1) (filters_of list)))) (drop-drop head_words at list)
+  filters_here = ap (λ (fs : List Filter). written (map all_left fs)) (rest_filter list n i r here h)
 
   pub fill_turn : (w p ws W : List ℕ) → length w ≡ filter_slot * n → length p ≡ filter_slot → ws ≡ words → p ≡ ws ++ replicate (filter_slot - length ws) 0
       → take (filter_slot * i) w ++ written (map all_left (drop i (filters_of list))) ≡ W
       → take (filter_slot * (i + 1)) (put_mid (filter_slot * i) (filter_slot * i + filter_slot - filter_slot * i) w p) ++ written (map all_left (drop (i + 1) (filters_of list))) ≡ W
   fill_turn w p ws W l m e q inv =
-      let rest = written (map all_left (drop (i + 1) (filters_of list))) in
-      turn i w p (omega arith) m rest W
-      (ap (λ (x : List ℕ). take (filter_slot * i) w ++ (x ++ rest)) (q ∙ filter_start ws e) ∙ ap (λ (x : List ℕ). take (filter_slot * i) w ++ x) (sym filters_here) ∙ inv)
+      let others = written (map all_left (drop (i + 1) (filters_of list))) in
+      let more : i < n = rest_below list n i r here h in
+      turn i w p (omega arith) m others W
+      (ap (λ (x : List ℕ). take (filter_slot * i) w ++ (x ++ others)) (q ∙ filter_start ws e) ∙ ap (λ (x : List ℕ). take (filter_slot * i) w ++ x) (sym filters_here) ∙ inv)
 
-pub fill_end : (list : List ℕ) (n i at : ℕ) → At list n i at → n ≤ i → written (map all_left (drop i (filters_of list))) ≡ []
+pub fill_end : (list : List ℕ) (n i : ℕ) (r : List ℕ) → Rest list n i r → r ≡ [] → (i ≡ n) × (written (map all_left (drop i (filters_of list))) ≡ [])
 unfolding written
-fill_end list n i at here h = ap (λ (fs : List Filter). written (map all_left fs)) (at_end list n i at here h)
+fill_end list n i r here e =
+    let e' = rest_end list n i r here e in
+    (e'.0, ap (λ (fs : List Filter). written (map all_left fs)) e'.1)

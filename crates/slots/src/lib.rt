@@ -14,7 +14,7 @@ ghost use Rattle.slots.specs.inner.Slots.{held_set, out_set_in, sure_set_in, clo
 ghost use Rattle.slots.specs.inner.Steps.{filters_in, marked_set, StateWords, Both, Starts};
 
 use filter::OUT;
-use lists::{HEAD_WORDS, MAX_FILTERS, MAX_TESTS, TEST_WORDS, TestWords};
+use lists::{Filters, HEAD_WORDS, MAX_FILTERS, MAX_TESTS, TEST_WORDS, TestWords};
 use residue::{Outcome, Test};
 use sets::Set;
 
@@ -171,19 +171,16 @@ pub fn same(a: &[u32], b: &[u32]) -> bool
     a == b
 }
 
-// Every filter of an accepted list with all its tests. A filter begins where the one before it ends.
+// Every filter of an accepted list with all its tests.
 fn fill_all(list: &[u32], dst: &mut [u32])
     requires { Starts list.now dst.old }
     ensures { dst.new ≡ written (map all_left (filters_of list.now)) }
 {
-    let mut begin: usize = 0;
-    // By index: of a slice that chunks_exact_mut lent a proof knows the length alone.
-    for i in 0..dst.len() / FILTER_WORDS {
-        let tests = begin + HEAD_WORDS;
-        let end = begin + lists::filter_words(lists::count_at(list, begin));
+    // Written by index: of a slice that chunks_exact_mut lent a proof knows the length alone.
+    for (i, words) in Filters(list).enumerate() {
+        let end = lists::filter_words(lists::count_at(words, 0));
         let at = FILTER_WORDS * i;
-        filter::fill(&list[tests..end], &mut dst[at..at + FILTER_WORDS]);
-        begin = end;
+        filter::fill(&words[HEAD_WORDS..end], &mut dst[at..at + FILTER_WORDS]);
     }
 }
 

@@ -1,11 +1,12 @@
--- `slots::fill_all` meets its contract. The loop's invariant: the filters that are written, then those from the one at which the loop stands in the list, are all of them.
+-- `slots::fill_all` meets its contract. The loop's invariant: the filters that are written, then those that are left of the list, are all of them.
 -- Assumes nothing.
 use Rattle.slots.specs.Words.{filter_slot}
 use Rattle.slots.specs.inner.Words.{written}
 use Rattle.slots.specs.inner.Steps.{filters_in}
 use Rattle.states.specs.States.{all_left}
 use Rattle.lists.specs.Filters.{filters_of}
-use Rattle.lists.specs.laws.Walking.{At}
+use Rattle.lists.specs.laws.Walking.{Rest}
+use Rattle.std.specs.Iterator.Adapters.{enumerate_source, enumerate_count}
 use lib.ListN.{take, drop}
 use mathlib.Core.List.{◌++◌, map}
 use mathlib.Core.Path.{◌≡◌}
@@ -14,6 +15,6 @@ use Rattle.slots.proofs.fill_all.Given as goal
 
 abbrev pub invariant-loop-i : goal.invariant-loop-i
 invariant-loop-i l = record {
-  stands : At l.list (filters_in l.initial.dst) l.i l.begin;
-  whole : take (filter_slot * l.i) l.dst ++ written (map all_left (drop l.i (filters_of l.list))) ≡ written (map all_left (filters_of l.list));
+  rest : Rest l.list (filters_in l.initial.dst) (enumerate_count l.i-iterator) (enumerate_source l.i-iterator).0.now;
+  whole : take (filter_slot * enumerate_count l.i-iterator) l.dst ++ written (map all_left (drop (enumerate_count l.i-iterator) (filters_of l.list))) ≡ written (map all_left (filters_of l.list));
 }
