@@ -1,7 +1,7 @@
 // A run of words is a list of filters, or refused (document 01, "Tests, filters, ranks" and refusals 1 to 9).
 #![tactic(auto)]
 
-ghost use Rattle.std.specs.Prelude.{◌≡◌, cond, not, ◌+◌, ◌*◌, ◌≤◌, eqb, length, get_or, drop};
+ghost use Rattle.std.specs.Prelude.{◌≡◌, ℕ, Bool, cond, not, ◌+◌, ◌*◌, ◌≤◌, ◌<◌, eqb, length, get_or, drop};
 ghost use Rattle.sets.specs.Sets.{set_of, tally};
 ghost use Rattle.lists.specs.Filters.{max_filters, head_words, test_words, count_word, test_of, item_of, filter_of, filters_of};
 ghost use Rattle.lists.specs.Words.{words_of};
@@ -323,25 +323,31 @@ pub fn ranks_above(ranks: &[Rank], j: usize, i: usize) -> bool
         & ((lower.level < upper.level) | ((upper.level == lower.level) & (j < i)))
 }
 
-// The set of those among the first n filters that rank above filter i. Each has its bit.
-fn above_set(ranks: &[Rank], n: usize, i: usize) -> Set
-    requires { n ≤ max_filters }
-    ensures { result ≡ set_of (tally n (λ j. above_by ranks.now j i)) }
+// The set of those among the first n filters of which the test holds.
+pub fn set_where<F: Fn(usize) -> bool>(n: usize, test: F) -> Set
+    requires few { n ≤ max_filters }
+    requires asked { (i : ℕ) → i < n → F.pre test i }
+    ensures { (p : ℕ → Bool) → ((i : ℕ) (b : Bool) → i < n → F.post test i b → b ≡ p i) → result ≡ set_of (tally n p) }
 {
-    let mut set: Set = 0;
-    for j in 0..n {
-        set = sets::put(set, j as u32, ranks_above(ranks, j, i));
+    let mut set = sets::EMPTY;
+    for i in 0..n {
+        set = sets::put(set, i as u32, test(i));
     }
     set
 }
 
-// The same where filter i may be beyond the list: nothing ranks above what is not there.
+// The set of those among the first n filters that rank above filter i; beyond the list it is empty, since nothing ranks above what is
+// not there.
 #[tactic(auto, unfolding(crate::specs::inner::Columns::rank_set_by))]
 fn rank_set(ranks: &[Rank], n: usize, i: usize) -> Set
     requires { n ≤ max_filters }
     ensures { result ≡ rank_set_by ranks.now n i }
 {
-    if i < n { above_set(ranks, n, i) } else { 0 }
+    if i < n {
+        set_where(n, |j| ranks_above(ranks, j, i))
+    } else {
+        sets::EMPTY
+    }
 }
 
 // Writes for each filter the set of those that rank above it, so that ranks are worked out once for a list.

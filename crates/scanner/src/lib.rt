@@ -76,18 +76,6 @@ fn stands(ranks: &[Rank], n: usize, held: Set, i: usize) -> bool
     sets::has(held, i as u32) && !beaten(ranks, n, held, i)
 }
 
-// The set of those among the first n filters.
-fn standing(ranks: &[Rank], n: usize, held: Set) -> Set
-    requires { n ≤ max_filters }
-    ensures { result ≡ set_of (tally n (stands_by ranks.now n held)) }
-{
-    let mut set: Set = 0;
-    for i in 0..n {
-        set = sets::put(set, i as u32, stands(ranks, n, held, i));
-    }
-    set
-}
-
 // Whether a set has one member at most.
 fn lone(set: Set) -> bool
     ensures { result ≡ eqb (bit_and set (set - 1)) 0 }
@@ -101,7 +89,7 @@ fn top_set(list: &[u32], held: Set) -> Set
 {
     let mut ranks = [NO_RANK; MAX_FILTERS];
     let n = lists::heads(list, &mut ranks);
-    standing(&ranks, n, held)
+    lists::set_where(n, |i| stands(&ranks, n, held, i))
 }
 
 // The match set of a frame by an accepted list, which is not checked again. Of most frames one filter holds at most:
