@@ -1,24 +1,24 @@
 -- Reading a part and going on with it, and what the parts come to.
+--   ReadOn        a part was read behind the bytes held, and the replay went on with it
 -- Assumes nothing.
-use Prim.Native.Nat.{ℕ, ◌+◌, ◌-◌, ◌≤◌}
-use mathlib.Core.Path.{◌≡◌, refl, sym, ap, ◌∙◌}
-use mathlib.Core.Bool.{Bool, false}
-use mathlib.Core.List.{List, [], ◌∷◌, ◌++◌}
-use native.Mathlib.Omega.{arith}
-use lib.ListN.{length, take, drop, replicate, length-append, length-replicate, replicate-append-replicate, take-append-drop}
-use lib.Seq.{length-take-le, take-take, take_at}
-use Rattle.captures.specs.Replay.{replay_of}
+use Rattle.std.specs.Prelude.{ℕ, ◌+◌, ◌≤◌, ◌≡◌, refl, List, [], ◌∷◌, ◌++◌, length, take, drop, replicate, Result, Ok, Err}
+use Rattle.std.proofs.Common.{sym, ap, ◌∙◌, arith, length-append, length-take-le, take-append-drop, take-take, take_at}
+use Rattle.std.proofs.lemmas.List.{length-replicate, take-replicate}
+use Rattle.captures.specs.Replay.{replay_of, text_replayed}
 use Rattle.captures.specs.Parts.{Paused, paused, went_on, WentOn, ending, begun_by, fed, finished, played_by, played, joined}
 use Rattle.captures.specs.laws.Whole.{played_whole, ready_fit}
+use Rattle.refusals.specs.declared.Refused.{Refused}
 use Rattle.text.specs.Text.{words_of}
 use Rattle.captures.specs.declared.Stand.{Stand}
-use Rattle.captures.specs.declared.Pause.{Pause}
-use Rattle.captures.specs.declared.Replayed.{Replayed}
-use Rattle.captures.specs.declared.Replayed.TheVariants.{Refused}
-use Rattle.captures.specs.declared.Begun.{Begun}
-use Rattle.captures.specs.declared.Begun.TheVariants as B
 use Rattle.captures.specs.declared.Stand.TheVariants.{Start}
-use Rattle.replay.specs.inner.Reads.{all_tallies, ReadOn, Answers, TextAnswers}
+use Rattle.captures.specs.declared.Pause.{Pause}
+use Rattle.captures.specs.declared.Ready.{Ready}
+use Rattle.replay.specs.inner.Reads.{all_tallies}
+
+pub record ReadOn (l : List ℕ) (st : Stand) (held ts : List ℕ) (st' : Stand) (held' : ℕ) (buffer ts' : List ℕ) : Type 0 where
+  pub part : List ℕ
+  pub fits : held' ≤ length buffer
+  pub went : went_on l st ts (held ++ part) ≡ paused st' ts' (take held' buffer)
 
 module _ (l : List ℕ) (st : Stand) (before filled ts : List ℕ) (held end : ℕ) (r : Pause) (after ts' : List ℕ) where
   abbrev p : Paused
@@ -48,20 +48,13 @@ pub fed_on : (l : List ℕ) (q : Paused) (parts : List (List ℕ)) (st : Stand) 
 fed_on l q parts st held ts st' held' buffer ts' e w =
     fed_more l q parts w.part ∙ ap (λ (x : Paused). went_on l x.stand x.counts (x.rest ++ w.part)) e ∙ w.went
 
-pub answer_so : (l : List ℕ) (q : Paused) (parts : List (List ℕ)) (st : Stand) (ts : List ℕ) (held : ℕ) (buffer : List ℕ) (answer : Replayed) →
+pub answer_so : (l : List ℕ) (q : Paused) (parts : List (List ℕ)) (st : Stand) (ts : List ℕ) (held : ℕ) (buffer : List ℕ) (answer : Result ℕ (Refused ℕ)) →
     held ≤ length buffer → fed l q parts ≡ paused st ts (take held buffer) → answer ≡ ending st held → replay_of answer ts ≡ finished (fed l q parts)
 unfolding finished
 answer_so l q parts st ts held buffer answer h e f = rw (e, length-take-le held buffer h, f)
 
 abbrev noughts : ℕ → List ℕ
 noughts n = replicate n 0
-
-take_noughts : (n m : ℕ) → n ≤ m → take n (noughts m) ≡ noughts n
-take_noughts n m h =
-    let both : n + (m - n) ≡ m = omega arith in
-    ap (λ (k : ℕ). take n (noughts k)) (sym both)
-    ∙ ap (λ (s : List ℕ). take n s) (sym (replicate-append-replicate n (m - n) 0))
-    ∙ take_at (noughts n) (noughts (m - n)) n (length-replicate n 0)
 
 -- The tallies stand at the front of the counts.
 module _ (ts part : List ℕ) (n : ℕ) (h : n ≤ length ts) (e : length part ≡ length (take n ts)) where
@@ -75,34 +68,34 @@ module _ (ts part : List ℕ) (n : ℕ) (h : n ≤ length ts) (e : length part �
   front_is = take_at part (drop n ts) n part_long
 
 -- What beginning with a text left: its words stand first.
-module _ (x before after : List ℕ) (b : Begun) (p : b ≡ begun_by x) (q : after ≡ words_of x ++ drop (length (words_of x)) before) where
-  pub refused_text : (r i : ℕ) (ts : List ℕ) → b ≡ B.Refused r i → TextAnswers x false (Refused r i) ts
+module _ (x before after : List ℕ) (b : Result Ready (Refused ℕ)) (p : b ≡ begun_by x) (q : after ≡ words_of x ++ drop (length (words_of x)) before) where
+  pub refused_text : (r : Refused ℕ) → b ≡ Err r → (file : List ℕ) × (replay_of (Err r) [] ≡ text_replayed x file)
   unfolding played played_by replay_of joined
-  refused_text r i ts e =
-      let so : played x [] ≡ replay_of (Refused r i) [] = rw (sym p ∙ e) in
-      λ _. ([], sym so ∙ played_whole x [])
+  refused_text r e =
+      let so : played x [] ≡ replay_of (Err r) [] = rw (sym p ∙ e) in
+      ([], sym so ∙ played_whole x [])
 
-  module _ (words tallies : ℕ) (e : b ≡ B.Ready words tallies) where
-    fit : (words ≡ length (words_of x)) × (tallies ≤ all_tallies)
-    fit = ready_fit x words tallies (sym p ∙ e)
+  module _ (r : Ready) (e : b ≡ Ok r) where
+    fit : (r.words ≡ length (words_of x)) × (r.tallies ≤ all_tallies)
+    fit = ready_fit x r (sym p ∙ e)
 
-    pub words_fit : words ≤ length after
+    pub words_fit : r.words ≤ length after
     words_fit = let long : length after ≡ length (words_of x) + length (drop (length (words_of x)) before) = ap length q ∙ length-append (words_of x) (drop (length (words_of x)) before) in omega (arith, long, fit.0)
 
-    pub tallies_fit : (ts : List ℕ) → ts ≡ noughts all_tallies → tallies ≤ length ts
+    pub tallies_fit : (ts : List ℕ) → ts ≡ noughts all_tallies → r.tallies ≤ length ts
     tallies_fit ts z = let long : length ts ≡ all_tallies = ap length z ∙ length-replicate {A = ℕ} all_tallies 0 in omega (arith, long, fit.1)
 
-    words_first : take words after ≡ words_of x
-    words_first = ap (λ (s : List ℕ). take words s) q ∙ take_at (words_of x) (drop (length (words_of x)) before) words (sym fit.0)
+    words_first : take r.words after ≡ words_of x
+    words_first = ap (λ (s : List ℕ). take r.words s) q ∙ take_at (words_of x) (drop (length (words_of x)) before) r.words (sym fit.0)
 
-    ready_played : (parts : List (List ℕ)) → finished (fed (words_of x) (paused Start (noughts tallies) []) parts) ≡ played x parts
+    ready_played : (parts : List (List ℕ)) → finished (fed (words_of x) (paused Start (noughts r.tallies) []) parts) ≡ played x parts
     unfolding played played_by
     ready_played parts = rw (sym p ∙ e)
 
-    pub ready_text : (ts part : List ℕ) (failed : Bool) (answer : Replayed) → ts ≡ noughts all_tallies → length part ≡ length (take tallies ts) →
-        Answers (take words after) (take tallies ts) failed answer part → TextAnswers x failed answer (take tallies (part ++ drop tallies ts))
-    ready_text ts part failed answer z long a ok =
-        let zeros : take tallies ts ≡ noughts tallies = ap (λ (s : List ℕ). take tallies s) z ∙ take_noughts tallies all_tallies fit.1 in
-        let parts = (a ok).0 in
-        let told : replay_of answer part ≡ played x parts = rw (words_first, zeros) at (a ok).1 ∙ ready_played parts in
-        (joined parts, ap (λ (s : List ℕ). replay_of answer s) (front_is ts part tallies (tallies_fit ts z) long) ∙ told ∙ played_whole x parts)
+    pub ready_text : (ts part : List ℕ) (answer : Result ℕ (Refused ℕ)) → ts ≡ noughts all_tallies → length part ≡ length (take r.tallies ts) →
+        (parts : List (List ℕ)) × (replay_of answer part ≡ finished (fed (take r.words after) (paused Start (take r.tallies ts) []) parts)) →
+        (file : List ℕ) × (replay_of answer (take r.tallies (part ++ drop r.tallies ts)) ≡ text_replayed x file)
+    ready_text ts part answer z long a =
+        let zeros : take r.tallies ts ≡ noughts r.tallies = ap (λ (s : List ℕ). take r.tallies s) z ∙ take-replicate r.tallies all_tallies 0 fit.1 in
+        let told : replay_of answer part ≡ played x a.0 = rw (words_first, zeros) at a.1 ∙ ready_played a.0 in
+        (joined a.0, ap (λ (s : List ℕ). replay_of answer s) (front_is ts part r.tallies (tallies_fit ts z) long) ∙ told ∙ played_whole x a.0)

@@ -1,12 +1,14 @@
 // A text of list words: decimal numbers that stand apart by spaces or line ends (document 01, "Numbers to try" and refusal 14).
 #![tactic(auto)]
 
-ghost use Rattle.std.specs.Prelude.{◌≡◌, ◌≤◌, length};
+ghost use Rattle.std.specs.Prelude.{◌≡◌, ◌≤◌, IfOk, length, take};
 ghost use Rattle.text.specs.Text.{max_text, separates, Reads};
 ghost use Rattle.text.specs.inner.Items.{max_items};
 ghost use Rattle.text.specs.inner.Steps.{more, step};
 
 use refusals::Refusal;
+use std::io;
+use std::io::Read;
 
 // The most bytes of a text.
 pub const MAX_TEXT: usize = 16384;
@@ -92,4 +94,19 @@ pub fn read_words(text: &[u8], words: &mut [u32; MAX_ITEMS]) -> Result<usize, Re
         return Err(Refusal::Text);
     }
     read_items(text, words)
+}
+
+// Reads behind the bytes held until the room is full or the input ends, and tells where.
+pub fn fill(input: &mut impl Read, room: &mut [u8], held: usize) -> io::Result<usize>
+    requires { held ≤ length room.old }
+    ensures { IfOk result (λ end. (held ≤ end) × (end ≤ length room.new) × (take held room.new ≡ take held room.old)) }
+{
+    let mut end = held;
+    while end < room.len() {
+        match input.read(&mut room[end..])? {
+            0 => break,
+            more => end += more,
+        }
+    }
+    Ok(end)
 }

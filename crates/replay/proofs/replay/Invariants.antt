@@ -6,4 +6,5 @@ use Rattle.replay.proofs.replay.Given as goal
 
 abbrev pub invariant-loop : goal.invariant-loop
 invariant-loop g l =
-    (l.held ≤ length l.buffer) × ((met : List (List ℕ)) × (fed l.list (paused Start l.fn.counts []) met ≡ paused l.stand l.counts (take l.held l.buffer)))
+    (l.pause.held ≤ length l.buffer) ×
+    ((met : List (List ℕ)) × (fed l.list (paused Start l.fn.counts []) met ≡ paused l.pause.stand l.counts (take l.pause.held l.buffer)))
