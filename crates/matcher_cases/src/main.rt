@@ -4,7 +4,7 @@
 
 ghost use Rattle.std.specs.Prelude.{◌≤◌, length};
 
-use matcher::Answer;
+use matcher::Walk;
 use std::{fmt, io};
 
 // The table that document 01 prints.
@@ -32,9 +32,9 @@ fn run<L: fmt::Display + Drop>(
     allowance: u32,
 ) -> io::Result<()> {
     let (end, found) = match matcher::classify(frame, 3, table, states, allowance) {
-        Answer::Done(found) => ("done", found),
-        Answer::Stopped(found) => ("stopped", found),
-        Answer::Refused(number) => return println!(rt; "{label}: refused {number}"),
+        Ok(Walk::Done(found)) => ("done", found),
+        Ok(Walk::Stopped(found)) => ("stopped", found),
+        Err(refusal) => return println!(rt; "{label}: refused {}", refusal.number()),
     };
     let cut = u8::from(found.cut);
     println!(rt;
