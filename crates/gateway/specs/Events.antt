@@ -5,10 +5,8 @@
 --   opened ts       the book after a clearing of the tallies ts
 --   book_after e b   the book after an event
 --   book_over es b   the book after a run of events
-use Rattle.std.specs.Prelude.{ℕ, ◌+◌, List, [], ◌∷◌}
-use Rattle.gateway.specs.declared.Judged.{Judged}
-use Rattle.gateway.specs.declared.Judged.TheVariants.{Verdict, Refused}
-use Rattle.gateway.specs.Gateway.{Judgement, judged, emptied}
+use Rattle.std.specs.Prelude.{ℕ, ◌+◌, List, [], ◌∷◌, Ok, Err}
+use Rattle.gateway.specs.Gateway.{Judged, Judgement, judged, emptied}
 
 unfoldable pub sum_of : List ℕ → ℕ
 sum_of [] = 0
@@ -24,8 +22,8 @@ pub record Book : Type 0 where
 
 -- A frame that gets a verdict is judged; one that is refused is not.
 unfoldable pub verdicts_in : Judged → ℕ
-verdicts_in (Verdict v) = 1
-verdicts_in (Refused n) = 0
+verdicts_in (Ok v) = 1
+verdicts_in (Err r) = 0
 
 unfoldable pub booked : Judgement → ℕ → Book
 booked j n = record { tallies = j.tallies; frames = n + verdicts_in j.answer }

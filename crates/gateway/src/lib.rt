@@ -2,10 +2,11 @@
 #![tactic(auto)]
 
 ghost use Rattle.std.specs.Prelude.{◌≡◌, ◌<◌, length, get_or};
-ghost use Rattle.gateway.specs.Gateway.{tally_count, lowest_of, all_verdicts, verdicts_fit, judgement_of, counted_at, judged_by, judged, emptied};
+ghost use Rattle.gateway.specs.Gateway.{tally_count, lowest_of, all_verdicts, verdicts_fit, judgement_of, counted_at, judged, emptied};
 
 use lists::{MAX_FILTERS, MAX_TESTS};
-use matcher::Answer;
+use matcher::Walk;
+use refusals::Refusal;
 use sets::Set;
 
 // A tally for each filter, and the last for frames that match none.
@@ -24,11 +25,11 @@ pub const DIVERT: u32 = 2;
 // A tally that cannot be counted up.
 const FULL: u32 = u32::MAX;
 
-// What judging a frame comes to: its verdict, or a refusal's number.
+// A verdict for each filter, and the standing verdict for a frame that matches none. They are words: C lends the table of them.
 #[derive(Clone, Copy)]
-pub enum Judged {
-    Verdict(u32),
-    Refused(u32),
+struct Verdicts<'a> {
+    entries: &'a [u32],
+    standing: u32,
 }
 
 // The number of the lowest-numbered filter in a set; that of the last tally where the set is empty: so many zeros stand below the
@@ -48,53 +49,41 @@ fn all_verdicts(verdicts: &[u32]) -> bool
     verdicts.iter().all(|verdict| *verdict <= DIVERT)
 }
 
-// Whether a verdict table has an entry for each filter, and it and the standing verdict have verdicts alone.
-#[tactic(auto, unfolding(crate::specs::Gateway::verdicts_fit))]
-fn verdicts_fit(verdicts: &[u32], standing: u32) -> bool
-    ensures { result ≡ verdicts_fit verdicts.now standing }
-{
-    verdicts.len() == MAX_FILTERS && standing <= DIVERT && all_verdicts(verdicts)
-}
-
-// The verdict at a place of the table; the standing one behind its end.
-fn verdict_at(verdicts: &[u32], standing: u32, place: usize) -> u32
-    ensures { result ≡ get_or verdicts.now place standing }
-{
-    verdicts.get(place).copied().unwrap_or(standing)
-}
-
-// Counts the frame at a place and answers the verdict there. A full tally refuses the frame.
-#[tactic(auto, unfolding(crate::specs::Gateway::counted_at))]
-fn count_frame(place: usize, verdicts: &[u32], standing: u32, tallies: &mut [u32]) -> Judged
-    requires { place < length tallies.old }
-    ensures { judgement_of result tallies.new ≡ counted_at place verdicts.now standing tallies.old }
-{
-    let before = tallies[place];
-    if before == FULL {
-        return Judged::Refused(15);
+impl Verdicts<'_> {
+    // Whether the table has an entry for each filter, and it and the standing verdict have verdicts alone.
+    #[tactic(auto, unfolding(crate::specs::Gateway::verdicts_fit))]
+    fn fit(&self) -> bool
+        ensures { result ≡ verdicts_fit self.now.entries.now self.now.standing }
+    {
+        self.entries.len() == MAX_FILTERS && self.standing <= DIVERT && all_verdicts(self.entries)
     }
-    tallies[place] = before + 1;
-    Judged::Verdict(verdict_at(verdicts, standing, place))
-}
 
-// Judges a frame by what its walk came to. A walk that was stopped is refused.
-#[tactic(auto, using(crate::proofs::laws::Lowest::lowest_below), unfolding(crate::specs::Gateway::judged_by))]
-fn judge_walk(answer: Answer, verdicts: &[u32], standing: u32, tallies: &mut [u32]) -> Judged
-    requires { length tallies.old ≡ tally_count }
-    ensures { judgement_of result tallies.new ≡ judged_by answer verdicts.now standing tallies.old }
-{
-    match answer {
-        Answer::Done(found) => {
-            count_frame(lowest_of(found.sure) as usize, verdicts, standing, tallies)
+    // The verdict at a place of the table; the standing one behind its end.
+    fn at(&self, place: usize) -> u32
+        ensures { result ≡ get_or self.now.entries.now place self.now.standing }
+    {
+        self.entries.get(place).copied().unwrap_or(self.standing)
+    }
+
+    // Counts the frame at a place and answers the verdict there. A full tally refuses the frame.
+    #[tactic(auto, unfolding(crate::specs::Gateway::counted_at))]
+    fn count_frame(&self, place: usize, tallies: &mut [u32]) -> Result<u32, Refusal>
+        requires { place < length tallies.old }
+        ensures { judgement_of result tallies.new ≡ counted_at place self.now.entries.now self.now.standing tallies.old }
+    {
+        let before = tallies[place];
+        if before == FULL {
+            return Err(Refusal::FullTally);
         }
-        Answer::Stopped(_) => Judged::Refused(13),
-        Answer::Refused(number) => Judged::Refused(number),
+        tallies[place] = before + 1;
+        Ok(self.at(place))
     }
 }
 
 // Judges a frame, which came in at a box port, by a table of so many states, a verdict for each filter and the standing verdict for
-// a frame that matches none. Counts it in the tally of the filter that gave the verdict, or in the last tally. A refusal changes no tally.
-#[tactic(auto, unfolding(crate::specs::Gateway::judged))]
+// a frame that matches none. Counts it in the tally of the filter that gave the verdict, or in the last tally. A walk that was stopped
+// is refused, and a refusal changes no tally.
+#[tactic(auto, using(crate::proofs::laws::Lowest::lowest_below), unfolding(crate::specs::Gateway::judged, crate::specs::Gateway::judged_by))]
 pub fn judge(
     frame: &[u8],
     port: u8,
@@ -103,17 +92,23 @@ pub fn judge(
     verdicts: &[u32],
     standing: u32,
     tallies: &mut [u32],
-) -> Judged
+) -> Result<u32, Refusal>
     ensures { judgement_of result tallies.new ≡ judged frame.now port table.now states verdicts.now standing tallies.old }
 {
     if tallies.len() != TALLIES {
-        return Judged::Refused(24);
+        return Err(Refusal::Tallies);
     }
-    if !verdicts_fit(verdicts, standing) {
-        return Judged::Refused(16);
+    let verdicts = Verdicts {
+        entries: verdicts,
+        standing,
+    };
+    if !verdicts.fit() {
+        return Err(Refusal::Verdicts);
     }
-    let answer = matcher::classify(frame, port, table, states, ALLOWANCE);
-    judge_walk(answer, verdicts, standing, tallies)
+    match matcher::classify(frame, port, table, states, ALLOWANCE)? {
+        Walk::Done(found) => verdicts.count_frame(lowest_of(found.sure) as usize, tallies),
+        Walk::Stopped(_) => Err(Refusal::Table),
+    }
 }
 
 // Makes every tally 0. A room of any length will do.

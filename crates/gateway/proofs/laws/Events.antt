@@ -1,13 +1,14 @@
 -- Over any run the tallies add up to the frames judged since the last clearing.
 --   judged_adds    a judgement makes the sum greater by one where it is a verdict, and leaves it where it is a refusal
 --   runs_add_up    so from a clearing on the sum is the count
-use Rattle.std.specs.Prelude.{ℕ, zero, suc, ◌+◌, ◌<◌, ◌≡◌, refl, not, List, [], ◌∷◌, eqb, length, get_or, set, replicate}
+use Rattle.std.specs.Prelude.{ℕ, zero, suc, ◌+◌, ◌<◌, ◌≡◌, refl, not, List, [], ◌∷◌, eqb, length, get_or, set, replicate, Ok, Err}
 use Rattle.std.proofs.Common.{arith, ap, ◌∙◌, eqb-true}
 use Rattle.std.proofs.lemmas.Bool.{not-false}
 use Rattle.residue.specs.laws.Choice.{by_cond}
-use Rattle.matcher.specs.Walk.{walk}
-use Rattle.matcher.specs.declared.Answer.{Answer}
-use Rattle.matcher.specs.declared.Answer.TheVariants as A
+use Rattle.refusals.specs.declared.Refusal.{Refusal}
+use Rattle.refusals.specs.declared.Refusal.TheVariants.{FullTally, Verdicts, Tallies}
+use Rattle.matcher.specs.declared.Walk.TheVariants.{Done, Stopped}
+use Rattle.matcher.specs.Walk.{Answer, walk}
 use Rattle.gateway.specs.Gateway.{tally_count, full_tally, allowance, lowest_of, verdicts_fit, Judgement, refused, counted_at, judged_by, judged}
 use Rattle.gateway.specs.Events.{sum_of, Event, frame, clearing, Book, verdicts_in, booked, opened, book_after, book_over}
 use Rattle.gateway.proofs.laws.Lowest.{lowest_below}
@@ -27,26 +28,26 @@ sum_zeros (suc n) = omega (arith, sum_zeros n)
 abbrev Adds : List ℕ → Judgement → Type 0
 Adds ts j = sum_of j.tallies ≡ sum_of ts + verdicts_in j.answer
 
-refused_adds : (n : ℕ) (ts : List ℕ) → Adds ts (refused n ts)
+refused_adds : (r : Refusal) (ts : List ℕ) → Adds ts (refused r ts)
 unfolding verdicts_in
-refused_adds n ts = omega arith
+refused_adds r ts = omega arith
 
 counted_adds : (i : ℕ) (vs : List ℕ) (d : ℕ) (ts : List ℕ) → i < length ts → Adds ts (counted_at i vs d ts)
 unfolding counted_at verdicts_in
 counted_adds i vs d ts l =
-    by_cond (Adds ts) (eqb (get_or ts i 0) full_tally) (λ _. refused_adds 15 ts) (λ _. sum_more ts i l)
+    by_cond (Adds ts) (eqb (get_or ts i 0) full_tally) (λ _. refused_adds FullTally ts) (λ _. sum_more ts i l)
 
 answer_adds : (a : Answer) (vs : List ℕ) (d : ℕ) (ts : List ℕ) → length ts ≡ tally_count → Adds ts (judged_by a vs d ts)
 unfolding judged_by
-answer_adds (A.Done x) vs d ts room = counted_adds (lowest_of x.sure) vs d ts (omega (arith, lowest_below x.sure))
-answer_adds (A.Stopped x) vs d ts room = refused_adds _ ts
-answer_adds (A.Refused n) vs d ts room = refused_adds n ts
+answer_adds (Ok (Done x)) vs d ts room = counted_adds (lowest_of x.sure) vs d ts (omega (arith, lowest_below x.sure))
+answer_adds (Ok (Stopped x)) vs d ts room = refused_adds _ ts
+answer_adds (Err r) vs d ts room = refused_adds r ts
 
 judged_adds : (f : List ℕ) (p : ℕ) (t : List ℕ) (m : ℕ) (vs : List ℕ) (d : ℕ) (ts : List ℕ) → Adds ts (judged f p t m vs d ts)
 unfolding judged
 judged_adds f p t m vs d ts =
-    by_cond (Adds ts) (not (eqb (length ts) tally_count)) (λ _. refused_adds 24 ts)
-    (λ room. by_cond (Adds ts) (not (verdicts_fit vs d)) (λ _. refused_adds 16 ts)
+    by_cond (Adds ts) (not (eqb (length ts) tally_count)) (λ _. refused_adds Tallies ts)
+    (λ room. by_cond (Adds ts) (not (verdicts_fit vs d)) (λ _. refused_adds Verdicts ts)
     (λ _. answer_adds (walk f p t m allowance) vs d ts (eqb-true (length ts) tally_count (not-false (eqb (length ts) tally_count) room))))
 
 abbrev Balanced : Book → Type 0
