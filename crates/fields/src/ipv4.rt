@@ -1,9 +1,8 @@
 // The IPv4 header (RFC 791).
 ghost use Rattle.std.specs.Prelude.{◌≡◌, ◌&&◌, ◌/◌, ◌%◌, ◌≤◌, leb, eqb, length};
-ghost use Rattle.fields.specs.Puts.{only_if};
-ghost use Rattle.fields.specs.Ipv4.{internet, internet_puts};
+ghost use Rattle.fields.specs.Ipv4.{internet_puts};
 ghost use Rattle.fields.specs.Seen.{may_be_internet, may_begin};
-ghost use Rattle.fields.specs.inner.Parts.{Added, packet_in, part_puts};
+ghost use Rattle.fields.specs.inner.Parts.{Added, packet_in};
 
 use crate::Header;
 use crate::bytes::{byte_at, four_at, two_at};
@@ -111,7 +110,7 @@ pub fn may_begin(frame: &[u8]) -> bool
 impl Header {
     // The packet's own fields.
     #[tactic(auto, unfolding(crate::specs::Header::noted, crate::specs::Header::filled, crate::specs::Ipv4::internet_puts, crate::specs::Ipv4::total_length, crate::specs::Ipv4::protocol))]
-    fn fill_internet(&mut self, frame: &[u8])
+    pub(crate) fn fill_internet(&mut self, frame: &[u8])
         requires { 34 ≤ length frame.now }
         ensures { Added (internet_puts frame.now) self.old self.new }
     {
@@ -122,29 +121,5 @@ impl Header {
         self.put(PROTOCOL, byte_at(frame, PROTOCOL_AT));
         self.put(SOURCE, four_at(frame, 26));
         self.put(DESTINATION, four_at(frame, 30));
-    }
-
-    // The second step of reading: these, if the frame has a packet.
-    #[tactic(auto, unfolding(crate::specs::Header::noted, crate::specs::Header::filled, crate::specs::Ipv4::internet))]
-    pub fn read_internet(&mut self, frame: &[u8], packet: Option<Part>)
-        requires { packet ≡ packet_in frame.now }
-        ensures { Added (only_if (internet frame.now) (internet_puts frame.now)) self.old self.new }
-    {
-        if packet.is_some() {
-            self.fill_internet(frame);
-        }
-    }
-
-    // The third step: the fields of its transport part, which is read as a part of the frame.
-    #[tactic(auto, unfolding(crate::specs::Header::noted, crate::specs::Header::filled, crate::specs::Ipv4::protocol, crate::specs::Ipv4::internet, crate::specs::Ipv4::transport, crate::specs::Ipv4::transport_start, crate::specs::Ipv4::transport_end, crate::specs::Ipv4::header_length, crate::specs::Ipv4::total_length))]
-    pub fn read_transport(&mut self, frame: &[u8], packet: Option<Part>)
-        requires { packet ≡ packet_in frame.now }
-        ensures { Added (part_puts frame.now) self.old self.new }
-    {
-        let Some(part) = packet else {
-            return;
-        };
-        let protocol = byte_at(frame, PROTOCOL_AT);
-        self.fill_transport(&frame[part.start..part.end], protocol);
     }
 }

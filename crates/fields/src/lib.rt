@@ -100,12 +100,23 @@ impl Header {
     // Puts the value of each field that the frame has into its word, leaves the other words, and has the set of these fields alone.
     // Any frame will do, an empty one too. A copy of this stands in each caller, where the set is kept in a register.
     #[inline(always)]
+    #[tactic(auto, using(crate::proofs::laws::Filling::noted_append, crate::proofs::laws::Filling::filled_append), unfolding(crate::specs::Header::present_set, crate::specs::Header::noted, crate::specs::Header::filled, crate::specs::Fields::puts, crate::specs::Ethernet::ethernet, crate::specs::Ipv4::internet, crate::specs::Ipv4::protocol, crate::specs::Ipv4::transport, crate::specs::Ipv4::transport_start, crate::specs::Ipv4::transport_end, crate::specs::Ipv4::header_length, crate::specs::Ipv4::total_length))]
     pub fn read(&mut self, frame: &[u8], port: u8)
         ensures { HeaderOf frame.now port self.old self.new }
     {
-        let packet = self.read_ethernet(frame, port);
-        self.read_internet(frame, packet);
-        self.read_transport(frame, packet);
+        self.present = 0;
+        self.put(BOX_PORT, u32::from(port));
+        let Some(ether_type) = ethernet::type_in(frame) else {
+            return;
+        };
+        // Looked for before the next store, so that the compiler need not load again what was just read.
+        let packet = ipv4::packet_in(frame);
+        self.put(ETHER_TYPE, ether_type);
+        let Some(part) = packet else {
+            return;
+        };
+        self.fill_internet(frame);
+        self.fill_transport(&frame[part.start..part.end], byte_at(frame, PROTOCOL_AT));
     }
 
     // Field `number`: a bit of the set and a word.

@@ -2,19 +2,17 @@
 --   Added              the puts ps, added to the header old, give the header new
 --   type_in f           field 0
 --   packet_in f         a packet that is whole, with the start and the end of its transport part
---   first_puts f p      the box port and field 0, which the first step of reading a header puts; the second puts the packet's header
---   part_puts f         the fields of the transport part, the third step
 --   lacking f s        what of the fields that could be there is not in the set s
 --   carried f i        for each field up to 12 whether a part could have it whose protocol is byte i of the frame
-use Rattle.std.specs.Prelude.{ℕ, ◌-◌, ◌^◌, ◌≡◌, Bool, false, cond, ◌||◌, List, [], ◌∷◌, ◌++◌, eqb, Option, None, Some}
+use Rattle.std.specs.Prelude.{ℕ, ◌-◌, ◌^◌, ◌≡◌, Bool, false, cond, ◌||◌, List, [], ◌∷◌, eqb, Option, None, Some}
 use Rattle.std.specs.Int.Bits.{bit_and}
 use Rattle.fields.specs.declared.Header.{Header}
 use Rattle.fields.specs.declared.ipv4.Part.{Part}
 use Rattle.sets.specs.Sets.{set_of}
-use Rattle.fields.specs.Puts.{Put, only_if}
+use Rattle.fields.specs.Puts.{Put}
 use Rattle.fields.specs.Ethernet.{ether_type, ethernet}
-use Rattle.fields.specs.Ipv4.{internet, protocol, transport_start, transport_end, transport}
-use Rattle.fields.specs.Transport.{tcp, udp, icmp, transport_puts}
+use Rattle.fields.specs.Ipv4.{internet, transport_start, transport_end}
+use Rattle.fields.specs.Transport.{tcp, udp, icmp}
 use Rattle.fields.specs.Seen.{could, chances}
 use Rattle.fields.specs.Header.{noted, filled}
 
@@ -27,12 +25,6 @@ type_in f = cond (ethernet f) (Some (ether_type f)) None
 
 abbrev pub packet_in : List ℕ → Option Part
 packet_in f = cond (internet f) (Some (record { start = transport_start f; end = transport_end f })) None
-
-abbrev pub first_puts : List ℕ → ℕ → List Put
-first_puts f p = (13, p) ∷ [] ++ only_if (ethernet f) ((0, ether_type f) ∷ [])
-
-abbrev pub part_puts : List ℕ → List Put
-part_puts f = only_if (internet f) (transport_puts (protocol f) (transport f))
 
 abbrev pub lacking : List ℕ → ℕ → ℕ
 lacking f s = bit_and (set_of (chances f)) (2 ^ 32 - 1 - s)

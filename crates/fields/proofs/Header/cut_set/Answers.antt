@@ -1,6 +1,5 @@
 -- `fields::Header::cut_set` meets its contract: where the last field of a part is there nothing is lacking; else the complement of a set is
 -- what it lacks of all bits. Assumes nothing.
-use borrow.Author.Tests.{not-true}
 use native.Mathlib.Omega.{arith}
 use mathlib.Core.Path.{sym, ◌∙◌}
 use Rattle.fields.specs.Ipv4.{protocol}
@@ -26,7 +25,7 @@ pub returns-then-not-may_begin : goal.returns-then-not-may_begin
 returns-then-not-may_begin c = rw c.requires.1
     (sym
     (later_none _ _ (rw c.requires.1 at (sym c.has-4.ensures ∙ c.if-has-4.true))
-    (sym c.may_begin.ensures ∙ not-true c.may_begin.result c.if-not-may_begin.true-raw)))
+    (sym c.may_begin.ensures ∙ c.if-not-may_begin.true)))
 
 pub returns : goal.returns
 returns c = rw c.possible_set.ensures
