@@ -3,9 +3,8 @@
 --   readings v              what fields read that are seen as v
 --   met_in fs v n s          some question met a cut field, of n at most from the state s on (document 02, P7)
 --   Legal f p               a frame that is not refused, of bytes, and a box port
-use Rattle.std.specs.Prelude.{ℕ, zero, suc, ◌≤◌, ◌<◌, ◌^◌, Bool, false, ◌||◌, List, length}
+use Rattle.std.specs.Prelude.{ℕ, zero, suc, ◌≤◌, ◌<◌, ◌^◌, Bool, false, ◌||◌, List, length, Option, Ok}
 use Rattle.fields.specs.Bytes.{Bytes}
-use Rattle.residue.specs.declared.Reading.{Reading}
 use Rattle.fields.specs.Ethernet.{max_frame}
 use Rattle.fields.specs.Seen.{is_cut, reading_of}
 use Rattle.fields.specs.declared.Seen.{Seen}
@@ -13,17 +12,17 @@ use Rattle.lists.specs.Filters.{Filter}
 use Rattle.states.specs.States.{State, Question, nothing, ask, question_of, sure_set, out_set}
 use Rattle.states.specs.Runs.{advance}
 use Rattle.matcher.specs.declared.Found.{Found}
-use Rattle.matcher.specs.declared.Answer.{Answer}
-use Rattle.matcher.specs.declared.Answer.TheVariants.{Done, Stopped}
+use Rattle.matcher.specs.declared.Walk.TheVariants.{Done, Stopped}
+use Rattle.matcher.specs.Walk.{Answer}
 
 unfoldable pub ended_by : Question → Found → Answer
-ended_by nothing x = Done x
-ended_by (ask q) x = Stopped x
+ended_by nothing x = Ok (Done x)
+ended_by (ask q) x = Ok (Stopped x)
 
 unfoldable pub shown_at : List Filter → State → ℕ → Bool → Answer
 shown_at fs s k b = ended_by (question_of s) (record { sure = sure_set fs s; out = out_set fs s; asked = k; cut = b })
 
-abbrev pub readings : (ℕ → Seen) → ℕ → Reading
+abbrev pub readings : (ℕ → Seen) → ℕ → Option ℕ
 readings v n = reading_of (v n)
 
 unfoldable pub met_at : (ℕ → Seen) → Question → Bool → Bool

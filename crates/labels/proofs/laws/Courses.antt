@@ -4,7 +4,7 @@
 use Prim.Native.Nat.{ℕ, zero, suc, ◌+◌, ◌≤◌, ◌<◌}
 use Rattle.std.proofs.Common.{arith, zero-add, suc-add, sym, ◌∙◌}
 use Rattle.std.proofs.Math.Nat.{add-zero, le_refl}
-use Rattle.std.specs.Prelude.{◌≡◌, ◌⊎◌, Bool, ◌||◌, eqb}
+use Rattle.std.specs.Prelude.{◌≡◌, ◌⊎◌, Bool, ◌||◌, eqb, Option, None, Some}
 use Rattle.std.proofs.Math.Path.{refl, ap, ap₂, subst}
 use Rattle.std.proofs.Math.Logic.{inl, inr, ⊎_elim}
 use Rattle.std.proofs.Math.Bool.{true, false, cond, or-false, or_assoc}
@@ -13,8 +13,6 @@ use Rattle.std.proofs.Math.ListN.{get_or}
 use borrow.Author.Tests.{ltb-true, lt-ltb, lt-leb}
 use Rattle.residue.specs.Tests.{holds}
 use Rattle.residue.specs.Facts.{outcome_of}
-use Rattle.residue.specs.declared.Reading.{Reading}
-use Rattle.residue.specs.declared.Reading.TheVariants as R
 use Rattle.residue.specs.declared.Outcome.TheVariants.{Holds, Fails}
 use Rattle.fields.specs.Widths.{field_count}
 use Rattle.fields.specs.Seen.{is_cut}
@@ -62,10 +60,10 @@ module _ (t : List ℕ) (n : ℕ) (q : Item) (words : question_at t n ≡ item_w
   unfolding damaged
   undamaged inside = rw (kind_at_lem, field_at_lem, kind_known q.test, kind_some q.test, lt-leb field_count q.field inside)
 
-  next_by_lem : (x : Reading) → next_by t n x ≡ way_at t n (outcome_of q.test x)
+  next_by_lem : (x : Option ℕ) → next_by t n x ≡ way_at t n (outcome_of q.test x)
   unfolding next_by way_at next_at outcome_of question_at item_of
-  next_by_lem R.Absent = refl
-  next_by_lem (R.Value x) =
+  next_by_lem None = refl
+  next_by_lem (Some x) =
       ap (λ (u : Item). cond (holds u.test x) (word_of t n holds_at) (word_of t n fails_at)) item_at ∙ go (holds q.test x)
     where
       go : (b : Bool) → cond b (word_of t n holds_at) (word_of t n fails_at) ≡ way_at t n (cond b Holds Fails)

@@ -3,14 +3,13 @@
 use Prim.Native.Nat.{ℕ, zero, suc, ◌+◌, ◌-◌, ◌≤◌, ◌<◌}
 use Rattle.std.proofs.Common.{arith, zero-add, not-suc-le-zero, le_of_suc-le-suc, sym, ◌∙◌, subst, ⊎_elim}
 use Rattle.std.proofs.Math.Nat.{suc_inj}
-use Rattle.std.specs.Prelude.{◌≡◌, ◌⊎◌, Bool, true, false, not, ◌&&◌, ◌||◌, List, ltb}
+use Rattle.std.specs.Prelude.{◌≡◌, ◌⊎◌, Bool, true, false, not, ◌&&◌, ◌||◌, List, ltb, Option}
 use Rattle.std.proofs.Math.Path.{refl, ap, fun_ext}
 use Rattle.std.proofs.Math.Logic.{inl, inr}
 use Rattle.std.proofs.lemmas.Bool.{false≢true}
 use Rattle.std.proofs.Math.ListN.{length}
 use borrow.Author.Tests.{lt-ltb, le-ltb, ne_eqb}
 use Rattle.residue.specs.laws.Choice.{both, first, second}
-use Rattle.residue.specs.declared.Reading.{Reading}
 use Rattle.residue.specs.declared.Outcome.{Outcome}
 use Rattle.fields.specs.Seen.{is_cut, seen}
 use Rattle.fields.specs.declared.Seen.{Seen}
@@ -35,8 +34,7 @@ use Rattle.states.proofs.laws.Stays.{leads_sure, leads_out}
 use Rattle.states.proofs.laws.Paths.{member_sure, member_out, PathTruth, path_truth}
 use Rattle.tables.specs.Tables.{slots_of}
 use Rattle.matcher.specs.declared.Found.{Found}
-use Rattle.matcher.specs.declared.Answer.{Answer}
-use Rattle.matcher.specs.Walk.{found, is_done, walk_from, walk}
+use Rattle.matcher.specs.Walk.{Answer, found, is_done, walk_from, walk}
 use Rattle.labels.specs.Labels.{ended_by, shown_at, readings, met_at, met_in, Legal}
 use Rattle.labels.specs.inner.Labelled.{met_on, LabelledBy}
 use Rattle.labels.proofs.laws.Courses.{Course, walk_course, end_well, walk_shows}
@@ -81,7 +79,7 @@ module _ (fs : List Filter) {j : ℕ} {s s' : State} (p : Leads fs Free j s s') 
       rw (sure_member fs s k b i, sure_member fs s' k' b' i, out_member fs s k b i, out_member fs s' k' b' i)
       (λ e. both here _ (first here _ e) (leads_sure fs p i (second here _ e)), λ e. both here _ (first here _ e) (leads_out fs p i (second here _ e)))
 
-matches_within : (fs : List Filter) (r : ℕ → Reading) (i : ℕ) → (ltb i (length fs) && matches fs r i) ≡ matches fs r i
+matches_within : (fs : List Filter) (r : ℕ → Option ℕ) (i : ℕ) → (ltb i (length fs) && matches fs r i) ≡ matches fs r i
 unfolding matches fires
 matches_within fs r i = go (ltb i (length fs)) _ _
   where
@@ -134,7 +132,7 @@ picked_run {fs} {v} {a} x =
 
 module _ {May : Item → State → Type 0} (chosen : (q : Item) (s : State) → May q s → Chosen q s) {fs : List Filter} (well : well_filters fs ≡ true) {v : ℕ → Seen}
     (widths : InWidths (readings v)) {a : ℕ} {w : Answer} (x : Shows May fs v a w) where
-  abbrev r : ℕ → Reading
+  abbrev r : ℕ → Option ℕ
   r = readings v
 
   truth : PathTruth fs r x.count x.state
