@@ -1,13 +1,12 @@
 -- On the words of slots the machine of a list does what it does on states.
 --   slots_same, slots_carried   the words of a good state compare, ask, step and read as the state does
 --   list_placed     so the builder, placing words, places the list's states with their records, or finds no slot where they are more than the slots
-use Rattle.std.specs.Prelude.{ℕ, ◌≡◌, true, List, length}
+use Rattle.std.specs.Prelude.{ℕ, ◌≡◌, true, List, length, Ok}
 use Rattle.std.proofs.Common.{arith, sym, ◌∙◌, subst}
 use Rattle.lists.specs.Filters.{Filter, filters_of, tests_in}
 use Rattle.lists.specs.inner.Well.{well_filters}
-use Rattle.lists.specs.Refusals.{listed}
+use Rattle.lists.specs.Refusals.{listed, counts}
 use Rattle.lists.specs.laws.Accepted.{accepted_count, accepted_well}
-use Rattle.lists.specs.declared.Listed.TheVariants.{Accepted}
 use Rattle.lists.specs.Ranks.{rank_sets}
 use Rattle.states.specs.States.{start}
 use Rattle.slots.specs.inner.Words.{written}
@@ -40,7 +39,7 @@ module _ (fs : List Filter) (few : FitsSlots fs) where
 
 -- The same for the words of an accepted list.
 pub list_placed :
-    (l : List ℕ) (n k slots : ℕ) → listed l ≡ Accepted n k → PlacesStates (filters_of l) n slots k (start_words n (rank_sets (filters_of l)) l)
+    (l : List ℕ) (n k slots : ℕ) → listed l ≡ Ok (counts n k) → PlacesStates (filters_of l) n slots k (start_words n (rank_sets (filters_of l)) l)
 list_placed l n k slots e =
     let fs = filters_of l in
     let c = accepted_count l n k e in

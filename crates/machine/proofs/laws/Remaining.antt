@@ -1,11 +1,10 @@
 -- Fewer tests remain on the words of a slot at each question, so the recursion that places states ends.
-use Rattle.std.specs.Prelude.{ℕ, ◌≤◌, ◌<◌, ◌≡◌, true, List, length}
+use Rattle.std.specs.Prelude.{ℕ, ◌≤◌, ◌<◌, ◌≡◌, true, List, length, Ok}
 use Rattle.std.proofs.Common.{arith, sym, ap, ◌∙◌}
 use Rattle.residue.specs.declared.Outcome.{Outcome}
 use Rattle.lists.specs.Filters.{Filter, filters_of}
-use Rattle.lists.specs.Refusals.{listed}
+use Rattle.lists.specs.Refusals.{listed, counts}
 use Rattle.lists.specs.laws.Accepted.{accepted_count, accepted_well}
-use Rattle.lists.specs.declared.Listed.TheVariants.{Accepted}
 use Rattle.lists.specs.Ranks.{rank_sets}
 use Rattle.states.specs.States.{State, start}
 use Rattle.states.specs.inner.Remaining.{remaining}
@@ -38,7 +37,7 @@ words_fall o (good_words {fs} {s} few g) q =
     rw (carried.step_carried o s g asked, left_written fs _ good, left_written fs s g) ((box_lawful fs).falls o s g asked)
 
 -- The start of an accepted list is good, and has no more tests than the list.
-module _ (l : List ℕ) (n k : ℕ) (accepts : listed l ≡ Accepted n k) where
+module _ (l : List ℕ) (n k : ℕ) (accepts : listed l ≡ Ok (counts n k)) where
   begins : Good (filters_of l) (start (filters_of l))
   begins = good_start (filters_of l) (accepted_well l n k accepts)
 
