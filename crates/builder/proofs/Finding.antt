@@ -3,19 +3,27 @@
 use Rattle.std.specs.Prelude.{Some, None}
 use Prim.Native.Nat.{ℕ, zero, suc, ◌+◌, ◌*◌, ◌-◌, ◌≤◌, ◌<◌}
 use mathlib.Core.Path.{◌≡◌, refl, sym, ap, ◌∙◌, subst}
-use mathlib.Core.Bool.{Bool, true, false, cond, not, ◌||◌, false≢true}
+use mathlib.Core.Bool.{true, false, not, false≢true}
 use mathlib.Core.List.{List, [], ◌∷◌, ◌++◌}
 use native.Mathlib.Nat.{add-zero, add-suc}
 use native.Mathlib.Numerals.{add-one}
 use native.Mathlib.Omega.{arith}
 use lib.Dec.{eqb}
-use lib.ListN.{length, take, drop, get_or}
+use lib.ListN.{length, take, drop, get_or, length-drop}
+use lib.Seq.{length-take-le}
+use Rattle.lists.specs.Filters.{max_filters}
+use Rattle.lists.specs.Words.{test_list}
+use Rattle.lists.specs.declared.TestWords.{TestWords}
+use Rattle.std.proofs.lemmas.Bool.{or_parts}
+use Rattle.std.proofs.lemmas.List.Recursion.{or_push}
+use Rattle.residue.specs.laws.Choice.{never}
 use Rattle.sets.specs.Sets.{tally}
 use Rattle.sets.specs.laws.Members.{tally_more, get_or_tally, length_tally}
 use Rattle.tables.specs.inner.Records.{agree, fresh_by, record_at, agreeing_from}
-use Rattle.tables.proofs.laws.Agreeing.{agreeing_in, agreeing_over}
+use Rattle.tables.proofs.laws.Agreeing.{agreeing_first, agreeing_none}
 use Rattle.tables.specs.declared.Fresh.{Fresh}
 use Rattle.slots.specs.Words.{filter_slot, slot_words}
+use Rattle.slots.specs.inner.Steps.{filters_in}
 use Rattle.slots.specs.inner.Slots.{same_words, question_in, asks_in}
 use Rattle.slots.specs.laws.Written.{same_words_eq}
 use Rattle.machine.specs.inner.Slots.{slots_in}
@@ -26,24 +34,38 @@ use Rattle.automaton.proofs.laws.Lists.{Begins, begins_refl, begins_append, begi
 use Rattle.automaton.proofs.laws.Places.{meets_append, place_begins}
 use Rattle.builder.specs.inner.Memory.{slot_at, states_in, records_at, memory_of, sought_in}
 use Rattle.builder.specs.inner.Promises.{Shows}
-use Rattle.builder.specs.inner.Builders.{Search, made}
+use Rattle.builder.specs.inner.Builders.{filters, state_at, Search}
 use Rattle.builder.specs.declared.rooms.Builder.{Builder}
 use Rattle.builder.specs.laws.WaysPlaced.{length_states}
 
--- The part of the slots that a call is lent is the state there.
-pub slot_part : (n i : ℕ) (s : List ℕ) → take (slot_words * i + filter_slot * n - slot_words * i) (drop (slot_words * i) s) ≡ slot_at n s i
+-- The part of the slots that a call is lent is the state there, of as many filters.
+abbrev pub part : List ℕ → List ℕ → ℕ → List ℕ
+part words s i = take (slot_words * i + length words - slot_words * i) (drop (slot_words * i) s)
+
+pub slot_part : (words s : List ℕ) (i : ℕ) → length words ≡ filter_slot * filters_in words → part words s i ≡ slot_at (filters_in words) s i
 unfolding slot_at
-slot_part n i s =
-    let e : slot_words * i + filter_slot * n - slot_words * i ≡ filter_slot * n = omega arith in
+slot_part words s i whole =
+    let e : slot_words * i + length words - slot_words * i ≡ filter_slot * filters_in words = omega arith in
     ap (λ (k : ℕ). take k (drop (slot_words * i) s)) e
 
+pub slot_long : (n : ℕ) (s : List ℕ) (i : ℕ) → n ≤ max_filters → slot_words * (i + 1) ≤ length s → length (slot_at n s i) ≡ filter_slot * n
+unfolding slot_at
+slot_long n s i few room =
+    let behind = length-drop (slot_words * i) s in
+    length-take-le (filter_slot * n) (drop (slot_words * i) s) (omega arith)
+
+pub slot_filters : (n : ℕ) (s : List ℕ) (i : ℕ) → n ≤ max_filters → slot_words * (i + 1) ≤ length s → filters_in (slot_at n s i) ≡ n
+slot_filters n s i few room = let long = slot_long n s i few room in omega arith
+
 -- The question of a state as the code reads it.
-pub asked_is : (n i : ℕ) (s : List ℕ) (kind field mask value : ℕ)
-    → kind ∷ field ∷ mask ∷ value ∷ [] ≡ question_in n (take (slot_words * i + filter_slot * n - slot_words * i) (drop (slot_words * i) s))
-    → not (eqb kind 0) ≡ asks_in n (slot_at n s i)
+pub asked_is : (b : Builder) (at : ℕ) (q : TestWords) → at < b.slots → test_list q ≡ question_in (filters_in (state_at b at)) (state_at b at)
+    → not (eqb q.kind 0) ≡ asks_in (filters b) (state_at b at)
 unfolding asks_in
-asked_is n i s kind field mask value e =
-    ap (λ (ws : List ℕ). not (eqb (get_or ws 0 0) 0)) (e ∙ ap (λ (w : List ℕ). question_in n w) (slot_part n i s))
+asked_is b at q inside e =
+    let scratched = b.scratched in
+    let count = slot_filters (filters b) b.scratch.now at b.filters (omega arith) in
+    ap (λ (ws : List ℕ). not (eqb (get_or ws 0 0) 0))
+    (e ∙ ap (λ (k : ℕ). question_in k (state_at b at)) count)
 
 -- ---- records first
 
@@ -62,36 +84,20 @@ shown n used ranks t s c f told is i h e =
 
 -- A record that does not agree: the state is another.
 other_record : (n i : ℕ) (t s c : List ℕ) (f : Fresh) → Shows n i t s c f → agree (record_at t i) (fresh_by f) ≡ false → false ≡ same_words (slot_at n s i) c
-other_record n i t s c f shows e = go (same_words (slot_at n s i) c) (λ q. shows q)
-  where
-    go : (b : Bool) → (b ≡ true → agree (record_at t i) (fresh_by f) ≡ true) → false ≡ b
-    go true k = absurd (false≢true (sym e ∙ k refl))
-    go false k = refl
+other_record n i t s c f shows e = sym (never (same_words (slot_at n s i) c) (λ q. false≢true (sym e ∙ shows q)))
 
 -- ---- one state more
 
 meets_more : (M : Machine) (met : List M.State) (x s : M.State) → meets M met s ≡ false → meets M (met ++ (x ∷ [])) s ≡ M.same x s
 unfolding meets
-meets_more M [] x s e = last (M.same x s)
-  where
-    last : (b : Bool) → (b || false) ≡ b
-    last true = refl
-    last false = refl
-meets_more M (y ∷ met) x s e = go (M.same y s) (λ r. meets_more M met x s r) e
-  where
-    go : (b : Bool) → (meets M met s ≡ false → meets M (met ++ (x ∷ [])) s ≡ M.same x s) → (b || meets M met s) ≡ false → (b || meets M (met ++ (x ∷ [])) s) ≡ M.same x s
-    go true below r = absurd (false≢true (sym r))
-    go false below r = below r
+meets_more M met x s e = or_push (λ l. meets M l s) (λ y. M.same y s) refl (λ y l. refl) met x ∙ rw e
 
 place_more : (M : Machine) (met : List M.State) (x s : M.State) → meets M met s ≡ false → M.same x s ≡ true → place_of M (met ++ (x ∷ [])) s ≡ length met
 unfolding meets place_of
 place_more M [] x s e q = rw q
-place_more M (y ∷ met) x s e q = go (M.same y s) (λ r. place_more M met x s r q) e
-  where
-    go : (b : Bool) → (meets M met s ≡ false → place_of M (met ++ (x ∷ [])) s ≡ length met) → (b || meets M met s) ≡ false
-        → cond b 0 (place_of M (met ++ (x ∷ [])) s + 1) ≡ suc (length met)
-    go true below r = absurd (false≢true (sym r))
-    go false below r = add-one _ ∙ ap suc (below r)
+place_more M (y ∷ met) x s e q =
+    let other = or_parts (M.same y s) (meets M met s) e in
+    rw (other.0, place_more M met x s other.1 q) (add-one (length met))
 
 -- ---- the first states begin all states
 
@@ -139,25 +145,30 @@ unmet_over n i (suc k) s c other none =
     subst (λ (m : ℕ). Unmet n m s c) next
     (unmet_more n (i + k) s c (unmet_over n i k s c (λ j low high. other j low (omega arith)) none) (other (i + k) (omega arith) (omega arith)))
 
-pub later_next : (used : ℕ) (t f : List ℕ) (i r : ℕ) → r ≡ agreeing_from (used - i) i t f → i ≤ r
-later_next used t f i r is = let low = (agreeing_in t f (used - i) i).0 in omega arith
+-- Of the records from place i on the first k are looked at.
+module _ {b : Builder} {used : ℕ} {f : Fresh} (asked : Search b used f) (i k : ℕ) (none : Unmet (filters b) i b.scratch.now b.words.now) (within : i + k ≤ used) where
+  -- The records from i on, before place j, do not agree.
+  unmet_up : (j : ℕ) → i ≤ j → j ≤ i + k → ((m : ℕ) → i ≤ m → m < j → agree (record_at b.table.now m) (fresh_by f) ≡ false)
+      → Unmet (filters b) j b.scratch.now b.words.now
+  unmet_up j low high over =
+      let whole : i + (j - i) ≡ j = omega arith in
+      subst (λ (m : ℕ). Unmet (filters b) m b.scratch.now b.words.now) whole
+      (unmet_over (filters b) i (j - i) b.scratch.now b.words.now
+      (λ (m : ℕ) (from : i ≤ m) (to : m < i + (j - i)).
+      other_record (filters b) m b.table.now b.scratch.now b.words.now f (asked.shows m (omega arith)) (over m from (omega arith)))
+      none)
 
-pub unmet_next : (b : Builder) {used : ℕ} {f : Fresh} → Search b used f → (i r : ℕ) → i ≤ used → Unmet b.n i b.scratch.now (made b)
-    → r ≡ agreeing_from (used - i) i b.table.now (fresh_by f) → (r ≤ used) × Unmet b.n r b.scratch.now (made b)
-unmet_next b {used} {f} asked i r h none is =
-    let t = b.table.now in
-    let s = b.scratch.now in
-    let c = made b in
-    let low = (agreeing_in t (fresh_by f) (used - i) i).0 in
-    let high = (agreeing_in t (fresh_by f) (used - i) i).1 in
-    let whole : i + (r - i) ≡ r = omega arith in (
-      omega arith,
-      subst (λ (m : ℕ). Unmet b.n m s c) whole
-          (unmet_over b.n i (r - i) s c
-          (λ (j : ℕ) (from : i ≤ j) (to : j < i + (r - i)).
-          other_record b.n j t s c f (asked.shows j (omega arith)) (agreeing_over t (fresh_by f) (used - i) i j from (subst (λ (m : ℕ). j < m) (whole ∙ is) to)))
-          none),
-    )
+  pub unmet_next : {r : ℕ} → Some r ≡ agreeing_from k i b.table.now (fresh_by f) → (i ≤ r) × (r < used) × Unmet (filters b) r b.scratch.now b.words.now
+  unmet_next {r} e =
+      let first = agreeing_first b.table.now (fresh_by f) k i r (sym e) in
+      let from = first.from in
+      let below = first.below in
+      (from, omega arith, unmet_up r from (omega arith) first.over)
+
+  pub unmet_all : None ≡ agreeing_from k i b.table.now (fresh_by f) → i + k ≡ used → Unmet (filters b) used b.scratch.now b.words.now
+  unmet_all e all =
+      subst (λ (m : ℕ). Unmet (filters b) m b.scratch.now b.words.now) all
+      (unmet_up (i + k) (omega arith) (omega arith) (λ m low high. agreeing_none b.table.now (fresh_by f) k i (sym e) m low high))
 
 pub found_at : (n i used : ℕ) (s c : List ℕ) → i < used → Unmet n i s c → true ≡ same_words (slot_at n s i) c
     → (ranks : List ℕ) → Some i ≡ sought_in n ranks (states_in n used s) c
@@ -171,13 +182,8 @@ found_at n i used s c h none e ranks =
     ∙ ap (λ (l : List (List ℕ)). place_of M l c) (states_next n i s)
     ∙ place_more M (states_in n i s) (slot_at n s i) c (none ranks) (sym e)
     ∙ length_states n i s in
-    sym (ap (λ (b : Bool). cond b (Some (place_of M (states_in n used s) c)) None) (meets_begins M c begins met)
-    ∙ ap (λ (k : ℕ). Some k) place)
+    rw (meets_begins M c begins met, place)
 
-pub found_nothing : (n i used : ℕ) (s c : List ℕ) → i ≤ used → used ≤ i → Unmet n i s c
-    → (ranks : List ℕ) → None ≡ sought_in n ranks (states_in n used s) c
+pub found_nothing : (n used : ℕ) (s c : List ℕ) → Unmet n used s c → (ranks : List ℕ) → None ≡ sought_in n ranks (states_in n used s) c
 unfolding sought_in
-found_nothing n i used s c h k none ranks =
-    let M = slots_in n ranks in
-    let same : i ≡ used = omega arith in
-    sym (ap (λ (b : Bool). cond b (Some (place_of M (states_in n used s) c)) None) (subst (λ (m : ℕ). meets M (states_in n m s) c ≡ false) same (none ranks)))
+found_nothing n used s c none ranks = rw (none ranks)

@@ -6,10 +6,10 @@ use mathlib.Core.List.{List, [], ◌∷◌, ◌++◌}
 use native.Mathlib.Omega.{arith}
 use borrow.Rule.Slice.PartMut.{mid_of, put_mid}
 use lib.ListN.{length, take, drop}
-use lib.Seq.{length-take-le}
 use Rattle.words.specs.laws.Lending.{later, put_before, put_there, put_behind}
 use Rattle.tables.specs.Tables.{record_words}
 use Rattle.tables.specs.inner.Records.{fresh_record, fresh_by, record_at}
+use Rattle.lists.specs.Words.{test_list}
 use Rattle.tables.specs.declared.Fresh.{Fresh}
 use Rattle.tables.proofs.laws.Layout.{record_long}
 use Rattle.slots.specs.Words.{filter_slot, slot_words}
@@ -20,14 +20,14 @@ use Rattle.automaton.specs.inner.Placing.{fresh_of, stored}
 use Rattle.builder.specs.inner.Memory.{slot_at, states_in, records_at, memory_of}
 use Rattle.builder.specs.laws.Memory.{states_more, records_more}
 use Rattle.builder.specs.inner.Promises.{Stored}
-use Rattle.builder.specs.inner.Builders.{made}
+use Rattle.builder.specs.inner.Builders.{filters, machine}
 use Rattle.builder.specs.declared.rooms.Builder.{Builder}
 
--- The record that the code makes is the candidate's.
-pub fresh_is : (n : ℕ) (ranks c : List ℕ) (f : Fresh) → f.kind ∷ f.field ∷ f.mask ∷ f.value ∷ [] ≡ question_in n c → f.sure ≡ sure_set_in n ranks c → f.out ≡ out_set_in n c
-    → fresh_by f ≡ fresh_of (slots_in n ranks) c
+-- The record that the code makes is the state's.
+pub fresh_is : (b : Builder) (f : Fresh) → test_list f.asked ≡ question_in (filters b) b.words.now → f.sure ≡ sure_set_in (filters b) b.ranks.now b.words.now
+    → f.out ≡ out_set_in (filters b) b.words.now → fresh_by f ≡ fresh_of (machine b) b.words.now
 unfolding fresh_by fresh_of
-fresh_is n ranks c f q s o = rw (q, s, o)
+fresh_is b f q s o = rw (q, s, o)
 
 fresh_long : (n : ℕ) (ranks c : List ℕ) → length (fresh_of (slots_in n ranks) c) ≡ record_words
 unfolding fresh_of fresh_record
@@ -56,22 +56,22 @@ record_there used t w q long room f = put_there (record_words * used) record_wor
 
 -- The state made last is copied into a lent tail of the slots, its record into one of the table.
 pub stored_both : (b : Builder) (used : ℕ) (p q fresh : List ℕ) → used < b.slots
-    → p ≡ made b ++ drop (length (made b)) (mid_of (slot_words * used) (length b.scratch.now - slot_words * used) b.scratch.now)
+    → p ≡ b.words.now ++ drop (length b.words.now) (mid_of (slot_words * used) (length b.scratch.now - slot_words * used) b.scratch.now)
     → q ≡ fresh ++ drop record_words (mid_of (record_words * used) (length b.table.now - record_words * used) b.table.now)
-    → fresh ≡ fresh_of (slots_in b.n b.ranks.now) (made b)
-    → Stored b.n b.slots b.ranks.now used b.table.now b.scratch.now (made b)
+    → fresh ≡ fresh_of (machine b) b.words.now
+    → Stored (filters b) b.slots b.ranks.now used b.table.now b.scratch.now b.words.now
     (put_mid (record_words * used) (length b.table.now - record_words * used) b.table.now q)
     (put_mid (slot_words * used) (length b.scratch.now - slot_words * used) b.scratch.now p)
 stored_both b used p q fresh below e f is =
-    let n = b.n in
+    let n = filters b in
     let ranks = b.ranks.now in
     let t = b.table.now in
     let s = b.scratch.now in
-    let c = made b in
-    let filters = b.filters in
+    let c = b.words.now in
+    let few = b.filters in
     let tabled = b.tabled in
     let scratched = b.scratched in
-    let whole : length c ≡ filter_slot * n = length-take-le (filter_slot * n) b.words.now b.roomy in
+    let whole = b.whole in
     let x : ℕ = slot_words * used in
     let y : ℕ = record_words * used in
     let s' : List ℕ = put_mid x (length s - x) s p in
@@ -85,7 +85,7 @@ stored_both b used p q fresh below e f is =
     let there : slot_at n s' used ≡ c = slot_there n used s c p whole fits e in
     record {
       memory =
-          memory_more n ranks used t s c t' s' (states_more n used s s' c filters kept there)
+          memory_more n ranks used t s c t' s' (states_more n used s s' c few kept there)
           (records_more used t t' (fresh_of (slots_in n ranks) c) (put_before y record_words t (fresh_of (slots_in n ranks) c) q long room put)
           (record_there used t (fresh_of (slots_in n ranks) c) q long room put));
       after = subst (λ (k : ℕ). drop k t' ≡ drop k t) next (put_behind y record_words t (fresh_of (slots_in n ranks) c) q long room put);

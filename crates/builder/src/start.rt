@@ -3,29 +3,28 @@ ghost use Rattle.lists.specs.Filters.{filters_of};
 ghost use Rattle.builder.specs.inner.Started.{Started, Startable};
 
 use crate::rooms::Builder;
+use lists::MAX_FILTERS;
 use sets::Set;
 use slots::{FILTER_WORDS, SLOT_WORDS};
 
 impl Builder<'_> {
-    ghost use Rattle.std.specs.Prelude.{◌≡◌, ℕ};
-    ghost use Rattle.lists.specs.Refusals.{listed};
-    ghost use Rattle.lists.specs.declared.Listed.TheVariants.{Accepted};
+    ghost use Rattle.std.specs.Prelude.{◌≡◌, ℕ, Ok};
+    ghost use Rattle.lists.specs.Refusals.{listed, counts};
     ghost use Rattle.slots.specs.inner.Slots.{start_words};
-    ghost use Rattle.builder.specs.inner.Builders.{Made};
+    ghost use Rattle.builder.specs.inner.Builders.{filters, Made};
 
     // Makes the start of the list.
     fn begin(&mut self, list: &[u32])
-        requires { (k : ℕ) × (listed list.now ≡ Accepted self.old.n k) }
-        ensures { Made self.old (start_words self.old.n self.old.ranks.now list.now) self.new }
+        requires { (k : ℕ) × (listed list.now ≡ Ok (counts (filters self.old) k)) }
+        ensures { Made self.old (start_words (filters self.old) self.old.ranks.now list.now) self.new }
     {
-        let width = FILTER_WORDS * self.n;
-        slots::start_into(list, &mut self.words[..width], self.n, self.ranks);
+        slots::start_into(list, self.words, self.ranks);
     }
 }
 
 // Places the start and its ways; says how many slots are used then, and nothing where a state found none.
 pub fn place_start(
-    ranks: &[Set],
+    ranks: &[Set; MAX_FILTERS],
     list: &[u32],
     n: usize,
     slots: usize,
@@ -42,11 +41,10 @@ pub fn place_start(
     let mut words = [0u32; SLOT_WORDS];
     let mut builder = Builder {
         ranks,
-        n,
         slots,
         table,
         scratch,
-        words: &mut words,
+        words: &mut words[..FILTER_WORDS * n],
     };
     builder.begin(list);
     let fresh = builder.fresh();

@@ -1,14 +1,17 @@
--- `builder::build` meets its contract: the outcome goes by what reading the list comes to.
+-- The outcome goes by what reading the list comes to.
 -- Assumes nothing.
-use mathlib.Core.Path.{sym, ◌∙◌}
-use Rattle.builder.specs.laws.Building as P
+use Rattle.std.proofs.Common.{sym, ◌∙◌}
+use Rattle.std.proofs.lemmas.Result.{err_from_is_err_and}
+use Rattle.builder.specs.laws.Building.{answered_refused, answered_accepted}
 use Rattle.builder.proofs.build.Goals as goal
 
 pub build_accepted-requires : goal.build_accepted-requires
-build_accepted-requires c = (c.in-Accepted.field-1, sym c.check.ensures ∙ c.in-Accepted.is)
+build_accepted-requires c = (c.in_ok-counts.counts.tests, sym c.check.ensures ∙ c.in_ok-counts.was)
 
-pub returns-in-Refused : goal.returns-in-Refused
-returns-in-Refused c = P.answered_refused c.args.list.now c.args.table.now c.args.scratch.now c.in-Refused.number c.in-Refused.filter (sym c.check.ensures ∙ c.in-Refused.is)
+pub returns-in_err-counts : goal.returns-in_err-counts
+returns-in_err-counts c =
+    let p = err_from_is_err_and c.from_residual.result c.from_residual.ensures.1 in
+    rw (p.1, p.2) (answered_refused _ _ _ (sym c.check.ensures ∙ c.in_err-counts.was))
 
-pub returns-in-Accepted : goal.returns-in-Accepted
-returns-in-Accepted c = P.answered_accepted c.args.list.now c.args.table.now c.args.scratch.now c.in-Accepted.filters c.in-Accepted.field-1 (sym c.check.ensures ∙ c.in-Accepted.is) c.build_accepted.result c.build_accepted.new.table c.build_accepted.new.scratch c.build_accepted.ensures
+pub returns : goal.returns
+returns c = answered_accepted _ _ _ (sym c.check.ensures ∙ c.in_ok-counts.was) c.build_accepted.ensures

@@ -9,7 +9,7 @@ use Rattle.tables.specs.inner.Records.{record_at}
 use Rattle.slots.specs.Words.{filter_slot, slot_words}
 use Rattle.machine.specs.inner.Slots.{slots_in}
 use Rattle.automaton.specs.Machines.{meets, place_of}
-use Rattle.automaton.specs.inner.Placing.{Memory, Placement, slotless, slotted}
+use Rattle.automaton.specs.inner.Placing.{Memory, Placement}
 
 unfoldable pub slot_at : ℕ → List ℕ → ℕ → List ℕ
 slot_at n s i = take (filter_slot * n) (drop (slot_words * i) s)
@@ -24,8 +24,8 @@ unfoldable pub memory_of : (n : ℕ) (ranks : List ℕ) → ℕ → List ℕ →
 memory_of n ranks u t s = record { met = states_in n u s; records = records_at u t }
 
 unfoldable pub out_of : (n : ℕ) (ranks : List ℕ) → Option ℕ → List ℕ → List ℕ → Placement (slots_in n ranks)
-out_of n ranks None t s = slotless
-out_of n ranks (Some u) t s = slotted (memory_of n ranks u t s)
+out_of n ranks None t s = None
+out_of n ranks (Some u) t s = Some (memory_of n ranks u t s)
 
 -- Where the candidate c stands among the states met, if it does.
 unfoldable pub sought_in : (n : ℕ) (ranks : List ℕ) → List (List ℕ) → List ℕ → Option ℕ

@@ -16,6 +16,7 @@ use Rattle.tables.specs.declared.Fresh.{Fresh}
 use Rattle.residue.specs.declared.Outcome.{Outcome}
 use Rattle.slots.specs.Words.{filter_slot, slot_words}
 use Rattle.slots.specs.inner.Slots.{asks_in, same_words}
+use Rattle.slots.specs.inner.Steps.{filters_in}
 use Rattle.machine.specs.inner.Slots.{slots_in}
 use Rattle.machine.specs.inner.Remaining.{GoodWords, tests_left}
 use Rattle.automaton.specs.Machines.{meets, place_of}
@@ -29,12 +30,11 @@ pub record Ready (n slots : ℕ) (ranks : List ℕ) (at used : ℕ) (t s : List 
   pub within : used ≤ slots
   pub told : Told (slots_in n ranks) (memory_of n ranks used t s)
 
--- A state lies in slot `at`, and the words w have room for another.
-pub record Stepping (n at : ℕ) (ranks s w : List ℕ) : Type 0 where
-  pub filters : n ≤ max_filters
-  pub ranked : length ranks ≡ max_filters
+-- A state lies in slot `at`, and the words w have room for the next one.
+pub record Stepping (at : ℕ) (s w : List ℕ) : Type 0 where
   pub slotted : slot_words * (at + 1) ≤ length s
-  pub roomy : filter_slot * n ≤ length w
+  pub filters : filters_in w ≤ max_filters
+  pub whole : length w ≡ filter_slot * filters_in w
 
 -- The words of a list's state, which has a question.
 pub record Asking (n : ℕ) (ranks w : List ℕ) : Type 0 where

@@ -1,11 +1,10 @@
 -- What building starts from, and what placing the start and all that follows from it leaves.
 --   Startable n slots ranks l t s   an accepted list, its rank sets and rooms of the sizes asked
 --   Started n slots ranks fs t s r t' s'   the words t' and s' that placing the states of fs leaves, with r slots used
-use Rattle.std.specs.Prelude.{ℕ, ◌*◌, ◌≤◌, ◌≡◌, List, length, drop, Option}
+use Rattle.std.specs.Prelude.{ℕ, ◌*◌, ◌≤◌, ◌≡◌, List, length, drop, Option, Ok}
 use Rattle.lists.specs.Filters.{Filter, filters_of}
 use Rattle.lists.specs.Ranks.{rank_sets}
-use Rattle.lists.specs.Refusals.{listed}
-use Rattle.lists.specs.declared.Listed.TheVariants.{Accepted}
+use Rattle.lists.specs.Refusals.{listed, counts}
 use Rattle.tables.specs.Tables.{record_words, max_slots}
 use Rattle.slots.specs.Words.{slot_words}
 use Rattle.machine.specs.inner.Placed.{whole}
@@ -15,7 +14,7 @@ use Rattle.builder.specs.inner.Promises.{Grown, AfterKept}
 -- An accepted list, its rank sets and rooms of the sizes asked.
 pub record Startable (n slots : ℕ) (ranks l t s : List ℕ) : Type 0 where
   pub ranked : ranks ≡ rank_sets (filters_of l)
-  pub listing : (k : ℕ) × (listed l ≡ Accepted n k)
+  pub listing : (k : ℕ) × (listed l ≡ Ok (counts n k))
   pub few : slots ≤ max_slots
   pub tabled : record_words * slots ≤ length t
   pub scratched : slot_words * slots ≤ length s

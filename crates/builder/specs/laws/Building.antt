@@ -1,32 +1,34 @@
 -- From what placing leaves to what building promises: the records are the table's front, and clearing leaves zeros.
 -- Assumes nothing.
-use Rattle.std.specs.Prelude.{ℕ, zero, suc, ◌+◌, ◌*◌, ◌≤◌, ◌<◌, ◌≡◌, Bool, leb, ltb, take, drop, Option, Some, None}
-use Rattle.std.proofs.Math.Path.{refl, ap, sym, subst}
+use Rattle.std.specs.Prelude.{ℕ, zero, suc, ◌+◌, ◌*◌, ◌≤◌, ◌<◌, ◌≡◌, leb, ltb, take, drop, Option, Some, None, Ok, Err}
+use Rattle.std.proofs.Math.Path.{refl, ap, sym}
 use Rattle.std.proofs.Common.{◌∙◌, arith, take-append-drop, take-add, length-take-le}
-use Rattle.std.proofs.Math.Bool.{true, false, cond}
-use mathlib.Core.List.{List, [], ◌∷◌, ◌++◌, map, append-nil, append_assoc}
+use Rattle.std.proofs.Math.Bool.{true, false}
+use mathlib.Core.List.{List, [], ◌∷◌, ◌++◌, append-nil, append_assoc}
 use Rattle.std.proofs.Math.ListN.{length, replicate, length-map}
 use borrow.Author.Tests.{leb-true, leb-false, lt-ltb, le-ltb}
+use Rattle.std.proofs.lemmas.Option.{cond_some}
+use Rattle.refusals.specs.declared.Refusal.TheVariants.{ScratchRoom, TableRoom}
+use Rattle.refusals.specs.declared.Refused.{Refused}
+use Rattle.refusals.specs.Numbers.{unplaced}
 use Rattle.lists.specs.Filters.{Filter, filters_of}
 use Rattle.lists.specs.Refusals.{listed}
-use Rattle.lists.specs.declared.Listed.{Listed}
-use Rattle.lists.specs.declared.Listed.TheVariants.{Accepted, Refused}
+use Rattle.lists.specs.declared.Counts.{Counts}
 use Rattle.sets.specs.Sets.{tally}
 use Rattle.words.specs.Lent.{cleared}
 use Rattle.tables.specs.Tables.{record_words, slots_of}
 use Rattle.tables.specs.inner.Records.{record_at}
 use Rattle.slots.specs.Words.{slot_words}
 use Rattle.slots.specs.inner.Words.{written}
-use Rattle.automaton.specs.Machines.{Machine, record_of, records_of, flat}
-use Rattle.automaton.specs.inner.Placing.{Memory, Placement, slotless, slotted}
-use Rattle.automaton.specs.inner.Placing.{holding}
-use Rattle.machine.specs.Box.{box_of, states_of, records_in}
+use Rattle.automaton.specs.Machines.{records_of, flat}
+use Rattle.automaton.specs.inner.Placing.{Memory}
+use Rattle.machine.specs.Box.{states_of, records_in}
 use Rattle.machine.specs.inner.Slots.{slots_in}
-use Rattle.builder.specs.Outcome.{Left, table_words, scratch_words, refused, no_room, placed, by_room, outcome_by, outcome, Answered}
+use Rattle.machine.specs.inner.Placed.{all_placed}
+use Rattle.builder.specs.Outcome.{Built, table_words, scratch_words, refused, no_room, placed, by_room, outcome_by, outcome, Answered}
 use Rattle.builder.specs.inner.Memory.{records_at, memory_of, out_of}
+use Rattle.builder.specs.laws.Memory.{cond_none}
 use Rattle.builder.specs.laws.WaysPlaced.{length_states}
-use Rattle.builder.specs.declared.Built.{Built}
-use Rattle.builder.specs.declared.Built.TheVariants as B
 use Rattle.builder.specs.inner.Started.{Started}
 
 -- The records that the table's front holds are its words.
@@ -46,9 +48,6 @@ records_front (suc u) t =
     ∙ sym (take-add (record_words * u) record_words t)
     ∙ ap (λ (k : ℕ). take k t) (sym one)
 
-slotted≢slotless : {M : Machine} {m : Memory M} → ◌≡◌ {A = Placement M} (slotted m) slotless → ⊥
-slotted≢slotless e = let z : ◌≡◌ {A = ℕ} 0 1 = cc in omega arith
-
 enough : (t s : List ℕ) → slot_words * slots_of t ≤ length s → ltb (length s) (scratch_words t) ≡ false
 unfolding scratch_words
 enough t s h = le-ltb (length s) (slot_words * slots_of t) h
@@ -56,31 +55,23 @@ enough t s h = le-ltb (length s) (slot_words * slots_of t) h
 module _ {n : ℕ} {ranks : List ℕ} {fs : List Filter} {t s t' s' : List ℕ} where
   -- All states found a slot: the records are those of the states, in the order of their numbers.
   module _ (u : ℕ) (came : Started n (slots_of t) ranks fs t s (Some u) t' s') where
-    memory_is : (b : Bool) → leb (length (states_of fs)) (slots_of t) ≡ b
-        → (b ≡ true) × (memory_of n ranks u t' s' ≡ holding (map written (states_of fs)) (map (record_of (box_of fs) (states_of fs)) (states_of fs)))
+    all_fit : (leb (length (states_of fs)) (slots_of t) ≡ true) × (all_placed n ranks fs ≡ memory_of n ranks u t' s')
     unfolding out_of
-    memory_is true e =
-        let m = came.comes ∙ ap (λ (c : Bool). cond c (slotted (holding (map written (states_of fs)) (map (record_of (box_of fs) (states_of fs)) (states_of fs)))) slotless) e in
-        (refl, cc)
-    memory_is false e =
-        absurd (slotted≢slotless (came.comes ∙ ap (λ (c : Bool). cond c (slotted (holding (map written (states_of fs)) (map (record_of (box_of fs) (states_of fs)) (states_of fs)))) slotless) e))
-
-    placed_memory : memory_of n ranks u t' s' ≡ holding (map written (states_of fs)) (map (record_of (box_of fs) (states_of fs)) (states_of fs))
-    placed_memory = (memory_is (leb (length (states_of fs)) (slots_of t)) refl).1
+    all_fit = cond_some (leb (length (states_of fs)) (slots_of t)) (all_placed n ranks fs) (memory_of n ranks u t' s') (sym came.comes)
 
     fits : length (states_of fs) ≤ slots_of t
-    fits = leb-true (length (states_of fs)) (slots_of t) (memory_is (leb (length (states_of fs)) (slots_of t)) refl).0
+    fits = leb-true (length (states_of fs)) (slots_of t) all_fit.0
 
     pub states_are : u ≡ length (states_of fs)
     unfolding memory_of
     states_are =
         sym (length_states n u s')
-        ∙ ap (λ (m : Memory (slots_in n ranks)). length m.met) placed_memory
+        ∙ ap (λ (m : Memory (slots_in n ranks)). length m.met) (sym all_fit.1)
         ∙ length-map (states_of fs) written
 
     front_is : take (record_words * u) t' ≡ records_in fs
     unfolding memory_of records_in records_of
-    front_is = sym (records_front u t') ∙ ap (λ (m : Memory (slots_in n ranks)). flat m.records) placed_memory
+    front_is = sym (records_front u t') ∙ ap (λ (m : Memory (slots_in n ranks)). flat m.records) (sym all_fit.1)
 
     -- The records' words are as many as the table's front has: u slots lie within the table.
     front_long : record_words * slots_of t ≤ length t' → length (records_in fs) ≡ record_words * u
@@ -100,55 +91,38 @@ module _ {n : ℕ} {ranks : List ℕ} {fs : List Filter} {t s t' s' : List ℕ} 
   cleared_scratch r came = ap (λ (l : List ℕ). replicate (slot_words * slots_of t) 0 ++ l) came.beyond
 
   pub built_states : {u : ℕ} → Started n (slots_of t) ranks fs t s (Some u) t' s' → slot_words * slots_of t ≤ length s → record_words * slots_of t ≤ length t'
-      → Answered (by_room fs t s) (B.States u) t' (cleared (slot_words * slots_of t) s')
+      → Answered (by_room fs t s) (Ok u) t' (cleared (slot_words * slots_of t) s')
   unfolding by_room placed
   built_states {u} came hs ht =
       let same : by_room fs t s ≡ placed fs t s = rw (enough t s hs, le-ltb (slots_of t) (length (states_of fs)) (fits u came)) in
-      rw same
-      (record {
-        answer = ap B.States (states_are u came);
-        table = table_is u came ht;
-        scratch = cleared_scratch (Some u) came;
-      })
+      rw same (record { answer = ap Ok (states_are u came); table = table_is u came ht; scratch = cleared_scratch (Some u) came })
 
   cleared_table : Started n (slots_of t) ranks fs t s None t' s' → cleared (record_words * slots_of t) t' ≡ cleared (table_words t) t
   unfolding cleared table_words
   cleared_table came = ap (λ (l : List ℕ). replicate (record_words * slots_of t) 0 ++ l) came.behind
 
-  fuller : (b : Bool) → leb (length (states_of fs)) (slots_of t) ≡ b → Started n (slots_of t) ranks fs t s None t' s' → slots_of t < length (states_of fs)
+  -- A state found no slot: the states are more than the slots.
+  more : Started n (slots_of t) ranks fs t s None t' s' → slots_of t < length (states_of fs)
   unfolding out_of
-  fuller true q came =
-      absurd (slotted≢slotless (sym (came.comes ∙ ap (λ (c : Bool). cond c (slotted (holding (map written (states_of fs)) (map (record_of (box_of fs) (states_of fs)) (states_of fs)))) slotless) q)))
-  fuller false q came = leb-false (length (states_of fs)) (slots_of t) q
+  more came = leb-false (length (states_of fs)) (slots_of t) (cond_none (leb (length (states_of fs)) (slots_of t)) (all_placed n ranks fs) (sym came.comes))
 
   pub built_slotless : Started n (slots_of t) ranks fs t s None t' s' → slot_words * slots_of t ≤ length s
-      → Answered (by_room fs t s) (B.Refused 11 0) (cleared (record_words * slots_of t) t') (cleared (slot_words * slots_of t) s')
+      → Answered (by_room fs t s) (Err (unplaced TableRoom)) (cleared (record_words * slots_of t) t') (cleared (slot_words * slots_of t) s')
   unfolding by_room no_room
   built_slotless came hs =
-      let same : by_room fs t s ≡ no_room t s = rw (enough t s hs, lt-ltb (slots_of t) (length (states_of fs)) (fuller (leb (length (states_of fs)) (slots_of t)) refl came)) in
+      let same : by_room fs t s ≡ no_room t s = rw (enough t s hs, lt-ltb (slots_of t) (length (states_of fs)) (more came)) in
       rw same (record { answer = refl; table = cleared_table came; scratch = cleared_scratch None came })
 
 -- The outcome goes by what reading the list comes to.
--- A number of states is no refusal.
-abbrev refuses : Built → ℕ
-refuses (B.States n) = 0
-refuses (B.Refused r i) = 1
-
-pub states_unrefused : (n r i : ℕ) → B.States n ≡ B.Refused r i → ⊥
-states_unrefused n r i e = omega (arith, ap refuses e)
-
-pub answered_refused : (l t s : List ℕ) (r i : ℕ) → listed l ≡ Refused r i → Answered (outcome l t s) (B.Refused r i) t s
+pub answered_refused : (l t s : List ℕ) {r : Refused ℕ} → listed l ≡ Err r → Answered (outcome l t s) (Err r) t s
 unfolding outcome outcome_by refused
-answered_refused l t s r i e =
-    subst (λ (x : Listed). Answered (outcome_by x l t s) (B.Refused r i) t s) (sym e) (record { answer = refl; table = refl; scratch = refl })
+answered_refused l t s e = rw e (record { answer = refl; table = refl; scratch = refl })
 
-pub answered_accepted : (l t s : List ℕ) (n k : ℕ) → listed l ≡ Accepted n k → (b : Built) (t' s' : List ℕ) → Answered (by_room (filters_of l) t s) b t' s'
+pub answered_accepted : (l t s : List ℕ) {c : Counts} → listed l ≡ Ok c → {b : Built} {t' s' : List ℕ} → Answered (by_room (filters_of l) t s) b t' s'
     → Answered (outcome l t s) b t' s'
 unfolding outcome outcome_by
-answered_accepted l t s n k e b t' s' a = subst (λ (x : Listed). Answered (outcome_by x l t s) b t' s') (sym e) a
+answered_accepted l t s e a = rw e a
 
-pub answered_short : (l t s : List ℕ) → length s < slot_words * slots_of t → Answered (by_room (filters_of l) t s) (B.Refused 10 0) t s
+pub answered_short : (l t s : List ℕ) → length s < slot_words * slots_of t → Answered (by_room (filters_of l) t s) (Err (unplaced ScratchRoom)) t s
 unfolding by_room refused scratch_words
-answered_short l t s h =
-    let same : by_room (filters_of l) t s ≡ refused 10 0 t s = rw (lt-ltb (length s) (slot_words * slots_of t) h) in
-    subst (λ (x : Left). Answered x (B.Refused 10 0) t s) (sym same) (record { answer = refl; table = refl; scratch = refl })
+answered_short l t s h = rw (lt-ltb (length s) (slot_words * slots_of t) h) (record { answer = refl; table = refl; scratch = refl })

@@ -1,18 +1,18 @@
 -- Building an accepted list: the sizes, and what each end of placing leaves once the scratch has been cleared.
 -- Assumes nothing.
-use Rattle.std.specs.Prelude.{ℕ, ◌*◌, ◌≤◌, ◌≡◌, List, length, Some, None}
+use Rattle.std.specs.Prelude.{ℕ, ◌*◌, ◌≤◌, ◌≡◌, List, length, Some, None, Ok, Err}
 use Rattle.std.proofs.Common.{arith}
 use Rattle.lists.specs.Filters.{Filter, filters_of}
-use Rattle.lists.specs.Refusals.{listed}
+use Rattle.lists.specs.Refusals.{listed, counts}
 use Rattle.lists.specs.Ranks.{rank_sets}
-use Rattle.lists.specs.declared.Listed.TheVariants.{Accepted}
 use Rattle.words.specs.Lent.{cleared}
 use Rattle.tables.specs.Tables.{record_words, max_slots, slots_of}
 use Rattle.slots.specs.Words.{slot_words}
 use Rattle.builder.specs.Outcome.{by_room, Answered}
 use Rattle.builder.specs.laws.Building.{built_states, built_slotless}
 use Rattle.builder.specs.inner.Started.{Startable, Started}
-use Rattle.builder.specs.declared.Built.TheVariants as B
+use Rattle.refusals.specs.declared.Refusal.TheVariants.{TableRoom}
+use Rattle.refusals.specs.Numbers.{unplaced}
 
 pub slots_tabled : (t : List ℕ) → record_words * slots_of t ≤ length t
 unfolding slots_of
@@ -23,7 +23,7 @@ unfolding slots_of
 slots_few t = omega arith
 
 module _ {t s : List ℕ} {slots : ℕ} (count : slots ≡ slots_of t) (asked : slot_words * slots ≤ length s) where
-  pub startable : {l ranks : List ℕ} {n : ℕ} → ranks ≡ rank_sets (filters_of l) → (k : ℕ) × (listed l ≡ Accepted n k) → Startable n slots ranks l t s
+  pub startable : {l ranks : List ℕ} {n : ℕ} → ranks ≡ rank_sets (filters_of l) → (k : ℕ) × (listed l ≡ Ok (counts n k)) → Startable n slots ranks l t s
   startable ranked accepts =
       record {
         ranked = ranked;
@@ -34,10 +34,10 @@ module _ {t s : List ℕ} {slots : ℕ} (count : slots ≡ slots_of t) (asked : 
       }
 
   module _ {n : ℕ} {ranks t' s' : List ℕ} {fs : List Filter} where
-    pub finished : {u : ℕ} → Started n slots ranks fs t s (Some u) t' s' → length t' ≡ length t → Answered (by_room fs t s) (B.States u) t' (cleared (slot_words * slots) s')
+    pub finished : {u : ℕ} → Started n slots ranks fs t s (Some u) t' s' → length t' ≡ length t → Answered (by_room fs t s) (Ok u) t' (cleared (slot_words * slots) s')
     finished came long = rw count (built_states (rw count at came) (rw count at asked) (rw long (slots_tabled t)))
 
-    pub finished_slotless : Started n slots ranks fs t s None t' s' → Answered (by_room fs t s) (B.Refused 11 0) (cleared (record_words * slots) t') (cleared (slot_words * slots) s')
+    pub finished_slotless : Started n slots ranks fs t s None t' s' → Answered (by_room fs t s) (Err (unplaced TableRoom)) (cleared (record_words * slots) t') (cleared (slot_words * slots) s')
     finished_slotless came = rw count (built_slotless (rw count at came) (rw count at asked))
 
     -- The number of states fits a word.

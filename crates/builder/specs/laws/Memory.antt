@@ -1,6 +1,6 @@
 -- Laws of the states and records that words hold: what storing a state, storing a record and putting in a next number change.
 -- Assumes nothing.
-use Rattle.std.specs.Prelude.{ℕ, ◌+◌, ◌*◌, ◌≤◌, ◌<◌, ◌≡◌, refl, Bool, true, false, eqb, take, get_or, set}
+use Rattle.std.specs.Prelude.{ℕ, ◌+◌, ◌*◌, ◌≤◌, ◌<◌, ◌≡◌, refl, Bool, true, false, cond, eqb, take, get_or, set, Some, None}
 use Rattle.std.proofs.Math.Path.{ap}
 use Rattle.std.proofs.Common.{sym, ◌∙◌, subst, arith, length-set, ext_get_or, get_or-set_same, get_or-set_other, eqb-true}
 use mathlib.Core.List.{List, [], ◌∷◌, ◌++◌}
@@ -15,6 +15,11 @@ use Rattle.tables.proofs.laws.Changes.{record_kept, next_same, next_other}
 use Rattle.slots.specs.Words.{filter_slot, slot_words}
 use Rattle.lists.specs.Filters.{max_filters}
 use Rattle.builder.specs.inner.Memory.{slot_at, states_in, records_at}
+
+-- A choice of nothing is made by a test that fails.
+pub cond_none : {A : Type 0} (b : Bool) (x : A) → cond b (Some x) None ≡ None → b ≡ false
+cond_none true x e = cc
+cond_none false x e = refl
 
 pub slot_kept : (n used i : ℕ) (s s' : List ℕ) → n ≤ max_filters → i < used → take (slot_words * used) s' ≡ take (slot_words * used) s → slot_at n s' i ≡ slot_at n s i
 unfolding slot_at

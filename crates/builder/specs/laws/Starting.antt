@@ -16,13 +16,13 @@ use Rattle.machine.proofs.laws.Carried.{list_placed}
 use Rattle.machine.specs.inner.Remaining.{GoodWords, tests_left}
 use Rattle.machine.proofs.laws.Remaining.{words_start, left_start}
 use Rattle.automaton.specs.Machines.{Machine}
-use Rattle.automaton.specs.inner.Placing.{Memory, Placement, Told, slotless, stored, place_state, place_all}
+use Rattle.automaton.specs.inner.Placing.{Memory, Placement, Told, stored, place_state, place_all}
 use Rattle.automaton.proofs.laws.Telling.{told_none, told_stored}
 use Rattle.builder.specs.inner.Memory.{slot_at, states_in, records_at, memory_of, out_of}
 use Rattle.builder.specs.inner.Promises.{Stored, StatePlaced, Grown, AfterKept}
 use Rattle.builder.specs.inner.Started.{Startable, Started}
 
-all_slotless : (M : Machine) (slots f : ℕ) (s : M.State) → slots ≡ 0 → place_all M slots f s ≡ slotless
+all_slotless : (M : Machine) (slots f : ℕ) (s : M.State) → slots ≡ 0 → place_all M slots f s ≡ None
 unfolding place_all
 all_slotless M slots f s e = rw (e, place_all)
 

@@ -22,7 +22,7 @@ use Rattle.machine.specs.inner.Slots.{slots_in}
 use Rattle.machine.specs.inner.Remaining.{GoodWords, tests_left}
 use Rattle.machine.proofs.laws.Remaining.{words_step, words_fall}
 use Rattle.automaton.specs.Machines.{meets, place_of}
-use Rattle.automaton.specs.inner.Placing.{Memory, Placement, Told, slotless, slotted, stored, linked, and_then, place_way, place_state}
+use Rattle.automaton.specs.inner.Placing.{Memory, Placement, Told, stored, linked, and_then, place_way, place_state}
 use Rattle.automaton.proofs.laws.Telling.{ToldBy, told_stored, told_way, told_state}
 use Rattle.automaton.proofs.laws.MetPlaced.{way_old, way_unslotted, way_new, state_final, state_slotless, state_slotted_slotless, state_slotted}
 use Rattle.builder.specs.inner.Memory.{slot_at, states_in, memory_of, out_of}
@@ -61,8 +61,8 @@ module _ {n slots : ℕ} {ranks : List ℕ} {at used : ℕ} (o : Outcome) {t s :
       record {
         comes = λ left h.
             sym (way_old (slots_in n ranks) slots (place_state (slots_in n ranks) slots left) o at (slot_at n s at) stepped (memory_of n ranks used t s) refl e
-            ∙ ap (λ (k : ℕ). slotted (linked (slots_in n ranks) o at k (memory_of n ranks used t s))) p
-            ∙ ap (λ (m : Memory (slots_in n ranks)). slotted m) (memory_linked n ranks used at i o t s at-used));
+            ∙ ap (λ (k : ℕ). Some (linked (slots_in n ranks) o at k (memory_of n ranks used t s))) p
+            ∙ ap (λ (m : Memory (slots_in n ranks)). Some m) (memory_linked n ranks used at i o t s at-used));
         grows = (omega arith, fits);
         after = next_behind at o i t used at-used;
         behind = next_behind at o i t slots (omega arith);
@@ -115,14 +115,14 @@ module _ {n slots : ℕ} {ranks : List ℕ} {at used : ℕ} (o : Outcome) {t s :
     abbrev the_state : ℕ → Placement (slots_in n ranks)
     the_state left = place_state (slots_in n ranks) slots left used stepped (stored (slots_in n ranks) stepped (memory_of n ranks used t s))
 
-    way_is : (left : ℕ) → the_way left ≡ and_then (slots_in n ranks) (the_state left) (λ m'. slotted (linked (slots_in n ranks) o at used m'))
+    way_is : (left : ℕ) → the_way left ≡ and_then (slots_in n ranks) (the_state left) (λ m'. Some (linked (slots_in n ranks) o at used m'))
     unfolding memory_of
     way_is left =
         let long = length_states n used s in
         way_new (slots_in n ranks) slots (place_state (slots_in n ranks) slots left) o at (slot_at n s at) stepped (memory_of n ranks used t s) refl meeting.0
         (subst (λ (k : ℕ). k < slots) (sym long) meeting.1)
         ∙ ap (λ (k : ℕ). and_then (slots_in n ranks) (place_state (slots_in n ranks) slots left k stepped (stored (slots_in n ranks) stepped (memory_of n ranks used t s)))
-        (λ m'. slotted (linked (slots_in n ranks) o at k m'))) long
+        (λ m'. Some (linked (slots_in n ranks) o at k m'))) long
 
     abbrev pub Building : Option ℕ → List ℕ → List ℕ → Type 0
     Building r t₂ s₂ = StatePlaced n slots ranks used (used + 1) t₁ s₁ r t₂ s₂
@@ -147,7 +147,7 @@ module _ {n slots : ℕ} {ranks : List ℕ} {at used : ℕ} (o : Outcome) {t s :
         let fewer : used + 1 ≤ slots = omega arith in
         record {
           comes = λ left h.
-              sym (way_is left ∙ ap (λ (p : Placement (slots_in n ranks)). and_then (slots_in n ranks) p (λ m'. slotted (linked (slots_in n ranks) o at used m'))) (sym (state_is None t₂ s₂ b left h)));
+              sym (way_is left ∙ ap (λ (p : Placement (slots_in n ranks)). and_then (slots_in n ranks) p (λ m'. Some (linked (slots_in n ranks) o at used m'))) (sym (state_is None t₂ s₂ b left h)));
           grows = tt;
           after = tt;
           behind = b.behind ∙ drop_new slots fewer;
@@ -166,8 +166,8 @@ module _ {n slots : ℕ} {ranks : List ℕ} {at used : ℕ} (o : Outcome) {t s :
         record {
           comes = λ left h.
               sym (way_is left
-              ∙ ap (λ (p : Placement (slots_in n ranks)). and_then (slots_in n ranks) p (λ m'. slotted (linked (slots_in n ranks) o at used m'))) (sym (state_is (Some u) t₂ s₂ b left h))
-              ∙ ap (λ (m : Memory (slots_in n ranks)). slotted m) (memory_linked n ranks u at used o t₂ s₂ (omega arith)));
+              ∙ ap (λ (p : Placement (slots_in n ranks)). and_then (slots_in n ranks) p (λ m'. Some (linked (slots_in n ranks) o at used m'))) (sym (state_is (Some u) t₂ s₂ b left h))
+              ∙ ap (λ (m : Memory (slots_in n ranks)). Some m) (memory_linked n ranks u at used o t₂ s₂ (omega arith)));
           grows = (omega arith, fits);
           after = next_behind at o used t₂ u (omega arith) ∙ b.after ∙ drop_new u more;
           behind = next_behind at o used t₂ slots (omega arith) ∙ b.behind ∙ drop_new slots fewer;
@@ -230,7 +230,7 @@ module _ {n slots : ℕ} {ranks : List ℕ} {at used : ℕ} {t s : List ℕ} (fe
     unfolding out_of
     first_slotless a =
         record {
-          comes = one_more_lem slotless (λ left h. sym (state_slotless (slots_in n ranks) slots left at (slot_at n s at) (memory_of n ranks used t s) asking.asks (sym (a.comes left h))));
+          comes = one_more_lem None (λ left h. sym (state_slotless (slots_in n ranks) slots left at (slot_at n s at) (memory_of n ranks used t s) asking.asks (sym (a.comes left h))));
           grows = tt;
           after = tt;
           behind = a.behind;
@@ -254,7 +254,7 @@ module _ {n slots : ℕ} {ranks : List ℕ} {at used : ℕ} {t s : List ℕ} (fe
       unfolding out_of
       second_slotless {t₂} {s₂} b =
           record {
-            comes = one_more_lem slotless (λ left h.
+            comes = one_more_lem None (λ left h.
                 sym (state_slotted_slotless (slots_in n ranks) slots left at (slot_at n s at) (memory_of n ranks used t s) (memory_of n ranks u₁ t₁ s₁) asking.asks
                 (sym (a.comes left h)) (sym (came O.Fails u₁ t₁ s₁ None t₂ s₂ slot_first b left h))));
             grows = tt;

@@ -9,7 +9,7 @@ use Rattle.slots.specs.inner.Slots.{asks_in}
 use Rattle.machine.specs.inner.Remaining.{GoodWords}
 use Rattle.builder.specs.inner.Promises.{Asking}
 use Rattle.builder.specs.laws.WaysPlaced as P
-use Rattle.builder.proofs.Following.{same_on, ready_on, asking_on, falls_on}
+use Rattle.builder.proofs.Following.{same_filters, same_on, ready_on, asking_on, falls_on}
 use Rattle.builder.proofs.rooms.Builder.+place_state_place_way.Goals as goal
 
 -- What is below the caller's measure is below its value.
@@ -47,7 +47,7 @@ pub place_state-returns-in_err-second-clause-placed : goal.place_state-returns-i
 place_state-returns-in_err-second-clause-placed t c =
     let asking = asked c.requires.good c.asks.ensures c.if-not-asks.false in
     let same = c.in_ok-first.ensures.same in
-    let second = rw (same.n, same.slots, same.ranks) at c.in_err-second.ensures.placed in
+    let second = rw (same_filters same, same.slots, same.ranks) at c.in_err-second.ensures.placed in
     rw c.from_residual-in_err-second.ensures (P.second_slotless c.args.self.now.filters c.requires.ready asking c.in_ok-first.ensures.placed second)
 
 pub place_state-place_way-requires-3 : goal.place_state-place_way-requires-3
@@ -56,7 +56,7 @@ place_state-place_way-requires-3 t c =
     let before = c.in_ok-first.ensures.same in
     let same = same_on before c.in_ok-second.ensures.same in
     let first = c.in_ok-first.ensures.placed in
-    let second = rw (before.n, before.slots, before.ranks) at c.in_ok-second.ensures.placed in
+    let second = rw (same_filters before, before.slots, before.ranks) at c.in_ok-second.ensures.placed in
     let inside = c.requires.ready.inside in
     let one = first.grows.0 in
     let two = second.grows.0 in
@@ -73,8 +73,8 @@ place_state-returns-clause-placed t c =
     let asking = asked c.requires.good c.asks.ensures c.if-not-asks.false in
     let before = c.in_ok-first.ensures.same in
     let same = same_on before c.in_ok-second.ensures.same in
-    let second = rw (before.n, before.slots, before.ranks) at c.in_ok-second.ensures.placed in
-    let third = rw (same.n, same.slots, same.ranks) at c.place_way-3.ensures.placed in
+    let second = rw (same_filters before, before.slots, before.ranks) at c.in_ok-second.ensures.placed in
+    let third = rw (same_filters same, same.slots, same.ranks) at c.place_way-3.ensures.placed in
     P.third c.args.self.now.filters c.requires.ready asking c.in_ok-first.ensures.placed second third
 
 pub place_way-returns-in_err-number-clause-placed : goal.place_way-returns-in_err-number-clause-placed
@@ -86,10 +86,10 @@ place_way-place_state-requires t c =
     let met = rw c.in-New.is at c.in_ok-number.ensures.met in
     let asking = c.requires.asking in
     let room = met.1 in (
-      below (rw same.n (P.state_less c.args.o c.requires.ready asking _ _ met)) c.decreases,
+      below (rw (same_filters same) (P.state_less c.args.o c.requires.ready asking _ _ met)) c.decreases,
       (
         ready_on same (omega arith) (omega arith) (P.told_new c.args.o c.requires.ready asking _ _ met),
-        rw (same.n, same.ranks) (P.good_new c.args.o c.requires.ready asking _ _ met),
+        rw (same_filters same, same.ranks) (P.good_new c.args.o c.requires.ready asking _ _ met),
       ),
     )
 
@@ -97,7 +97,7 @@ pub place_way-returns-in_err-now-in-New-clause-placed : goal.place_way-returns-i
 place_way-returns-in_err-now-in-New-clause-placed t c =
     let same = c.in_ok-number.ensures.same in
     let met = rw c.in-New.is at c.in_ok-number.ensures.met in
-    let state = rw (same.n, same.slots, same.ranks) at c.in_err-now-in-New.ensures.placed in
+    let state = rw (same_filters same, same.slots, same.ranks) at c.in_err-now-in-New.ensures.placed in
     rw c.from_residual-in_err-now-in-New.ensures (P.placed_new_slotless c.args.o c.requires.ready c.requires.asking _ _ met state)
 
 pub place_way-returns-in-Old-clause-placed : goal.place_way-returns-in-Old-clause-placed
@@ -107,5 +107,5 @@ pub place_way-returns-in_ok-now-in-New-clause-placed : goal.place_way-returns-in
 place_way-returns-in_ok-now-in-New-clause-placed t c =
     let same = c.in_ok-number.ensures.same in
     let met = rw c.in-New.is at c.in_ok-number.ensures.met in
-    let state = rw (same.n, same.slots, same.ranks) at c.in_ok-now-in-New.ensures.placed in
+    let state = rw (same_filters same, same.slots, same.ranks) at c.in_ok-now-in-New.ensures.placed in
     P.placed_new c.args.o c.requires.ready c.requires.asking _ _ met state c.put_next-in-New.ensures

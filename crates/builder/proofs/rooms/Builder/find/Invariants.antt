@@ -1,11 +1,11 @@
--- `Builder::find` meets its contract. The loop's invariant: none of the first i states is the candidate, neither those compared nor those whose records do not agree.
--- Assumes nothing.
-use Prim.Native.Nat.{◌≤◌, ◌-◌}
+-- None of the first states is the one sought, neither those compared nor those whose records do not agree.
+use Rattle.std.proofs.Common.{◌≤◌, ◌-◌}
+use Rattle.builder.specs.inner.Builders.{filters}
 use Rattle.builder.proofs.Finding.{Unmet}
 use Rattle.builder.proofs.rooms.Builder.find.Given as goal
 
-abbrev pub invariant-loop-i : goal.invariant-loop-i
-invariant-loop-i l = (l.i ≤ l.used) × Unmet l.self.n l.i l.self.scratch.now l.candidate
+abbrev pub invariant-loop-next : goal.invariant-loop-next
+invariant-loop-next l = record { within : l.from ≤ l.used; unmet : Unmet (filters l.self) l.from l.self.scratch.now l.self.words.now }
 
-abbrev pub decreases-loop-i : goal.decreases-loop-i
-decreases-loop-i l = l.used - l.i
+abbrev pub decreases-loop-next : goal.decreases-loop-next
+decreases-loop-next l = l.used - l.from
