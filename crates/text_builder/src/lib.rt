@@ -4,16 +4,14 @@
 ghost use Rattle.builder.specs.Outcome.{Answered};
 ghost use Rattle.text_builder.specs.Outcome.{text_outcome};
 
-use builder::Built;
-use text::Read;
+use refusals::Refused;
+use text::MAX_ITEMS;
 
 // Compiles a list that stands as text into the lent table, with the lent scratch; every text, table and scratch is fine.
-pub fn build_text(text: &[u8], table: &mut [u32], scratch: &mut [u32]) -> Built
+pub fn build_text(text: &[u8], table: &mut [u32], scratch: &mut [u32]) -> Result<u32, Refused<u32>>
     ensures { Answered (text_outcome text.now table.old scratch.old) result table.new scratch.new }
 {
-    let mut words = [0u32; 8192];
-    match text::read_words(text, &mut words) {
-        Read::Words(count) => builder::build(&words[..count], table, scratch),
-        Read::Refused => Built::Refused(14, 0),
-    }
+    let mut words = [0u32; MAX_ITEMS];
+    let count = text::read_words(text, &mut words)?;
+    builder::build(&words[..count], table, scratch)
 }
