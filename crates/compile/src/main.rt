@@ -4,7 +4,6 @@
 ghost use Rattle.std.specs.Prelude.{◌≡◌, ◌*◌, ◌≤◌, IfOk, length};
 ghost use Rattle.tables.specs.Tables.{record_words};
 
-use builder::Built;
 use slots::SLOT_WORDS;
 use std::io;
 use std::io::Read;
@@ -44,11 +43,11 @@ fn compile(rt: &impl Print, text: &[u8]) -> io::Result<()> {
     let mut table = [0u32; SLOTS * RECORD_WORDS];
     let mut scratch = [0u32; SLOTS * SLOT_WORDS];
     match text_builder::build_text(text, &mut table, &mut scratch) {
-        Built::States(states) => {
+        Ok(states) => {
             println!(rt; "states {states}")?;
             print_states(rt, &table, states as usize)
         }
-        Built::Refused(number, filter) => println!(rt; "refused {number} {filter}"),
+        Err(refused) => println!(rt; "{refused}"),
     }
 }
 

@@ -4,4 +4,4 @@ use Rattle.compile.proofs.Fits.{states_fit}
 use Rattle.compile.proofs.compile.Goals as goal
 
 pub print_states-requires : goal.print_states-requires
-print_states-requires g c = omega (arith, states_fit _ _ _ _ _ c.in-States.ensures.answer refl, c.build_text.auto.table)
+print_states-requires g c = omega (arith, states_fit _ _ _ c.in-Ok.ensures.answer, c.build_text.auto.table)
