@@ -15,13 +15,7 @@ pub const MAX_SLOTS: usize = 4096;
 pub const SET_WORDS: usize = 2;
 
 // The places of a record's words: its question's, as in a list; its next numbers, its sets.
-pub const KIND_AT: usize = lists::KIND_AT;
-
-pub const FIELD_AT: usize = lists::FIELD_AT;
-
-pub const MASK_AT: usize = lists::MASK_AT;
-
-pub const VALUE_AT: usize = lists::VALUE_AT;
+pub use lists::{FIELD_AT, KIND_AT, MASK_AT, VALUE_AT};
 
 pub const HOLDS_AT: usize = lists::TEST_WORDS;
 
