@@ -58,10 +58,11 @@ impl Builder<'_> {
     pub fn fresh(&self) -> Fresh
         ensures { fresh_by result ≡ fresh_of (machine self.now) self.now.words.now }
     {
+        let ranks = self.ranks;
         let out = slots::out_set(self.words);
         Fresh {
             out,
-            sure: slots::sure_set(self.words, self.ranks, out),
+            sure: slots::sure_set(self.words, ranks, out),
             asked: slots::question_of(self.words),
         }
     }

@@ -18,7 +18,8 @@ impl Builder<'_> {
         requires { (k : ℕ) × (listed list.now ≡ Ok (counts (filters self.old) k)) }
         ensures { Made self.old (start_words (filters self.old) self.old.ranks.now list.now) self.new }
     {
-        slots::start_into(list, self.words, self.ranks);
+        let ranks = self.ranks;
+        slots::start_into(list, self.words, ranks);
     }
 }
 

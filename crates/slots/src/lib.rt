@@ -2,7 +2,7 @@
 // A state's slice holds the words of its filters and of nothing else.
 #![tactic(auto)]
 
-ghost use Rattle.std.specs.Prelude.{◌≡◌, cond, map, length, find};
+ghost use Rattle.std.specs.Prelude.{◌≡◌, ◌≤◌, cond, map, length, find};
 ghost use Rattle.std.specs.Option.{option_copied};
 ghost use Rattle.std.specs.Simd.{first_chunks};
 ghost use Rattle.lists.specs.Filters.{filters_of, item_of};
@@ -67,8 +67,9 @@ pub fn out_set(state: &[u32]) -> Set
 }
 
 // Each filter that ranks below one of the held set made out.
-fn close_by(state: &mut [u32], ranks: &[Set; MAX_FILTERS], held: Set)
-    requires { StateWords state.old }
+fn close_by(state: &mut [u32], ranks: &[Set], held: Set)
+    requires whole { StateWords state.old }
+    requires ranked { filters_in state.old ≤ length ranks.now }
     ensures { state.new ≡ closed_in (filters_in state.old) ranks.now held 0 state.old }
 {
     // By index: of a slice that chunks_exact_mut lent a proof knows the length alone.
@@ -82,8 +83,9 @@ fn close_by(state: &mut [u32], ranks: &[Set; MAX_FILTERS], held: Set)
 
 // Each filter that ranks below a held one made out. Of most states no filter is held.
 #[tactic(auto, using(crate::proofs::Parts::closed_by_none), unfolding(crate::specs::inner::Slots::closed_words))]
-pub fn close(state: &mut [u32], ranks: &[Set; MAX_FILTERS])
-    requires { StateWords state.old }
+pub fn close(state: &mut [u32], ranks: &[Set])
+    requires whole { StateWords state.old }
+    requires ranked { filters_in state.old ≤ length ranks.now }
     ensures { state.new ≡ closed_words (filters_in state.old) ranks.now state.old }
 {
     let held = held_set(state);
@@ -107,8 +109,9 @@ fn cut_all(src: &[u32], dst: &mut [u32], field: u32, fact: Option<Test>)
 
 // Held, and every filter that ranks above it is in the out set.
 #[tactic(auto, using(crate::proofs::Sets::sure_marks))]
-pub fn sure_set(state: &[u32], ranks: &[Set; MAX_FILTERS], out: Set) -> Set
+pub fn sure_set(state: &[u32], ranks: &[Set], out: Set) -> Set
     requires whole { StateWords state.now }
+    requires ranked { filters_in state.now ≤ length ranks.now }
     requires out_value { out ≡ out_set_in (filters_in state.now) state.now }
     ensures { result ≡ sure_set_in (filters_in state.now) ranks.now state.now }
 {
@@ -147,14 +150,9 @@ pub fn question_of(state: &[u32]) -> TestWords
 
 // The state after a question, of src or any other, came to an outcome.
 #[tactic(auto, unfolding(crate::specs::inner::Slots::step_question, lists::specs::Filters::item_of))]
-pub fn step_by(
-    src: &[u32],
-    dst: &mut [u32],
-    ranks: &[Set; MAX_FILTERS],
-    asked: TestWords,
-    outcome: Outcome,
-)
-    requires { Both src.now dst.old }
+pub fn step_by(src: &[u32], dst: &mut [u32], ranks: &[Set], asked: TestWords, outcome: Outcome)
+    requires both { Both src.now dst.old }
+    requires ranked { filters_in src.now ≤ length ranks.now }
     ensures { dst.new ≡ step_question (filters_in src.now) ranks.now outcome (item_of (test_list asked)) src.now }
 {
     let field = asked.field;
@@ -186,8 +184,9 @@ fn fill_all(list: &[u32], dst: &mut [u32])
 
 // The start of an accepted list.
 #[tactic(auto, unfolding(crate::specs::inner::Slots::start_words))]
-pub fn start_into(list: &[u32], dst: &mut [u32], ranks: &[Set; MAX_FILTERS])
-    requires { Starts list.now dst.old }
+pub fn start_into(list: &[u32], dst: &mut [u32], ranks: &[Set])
+    requires starts { Starts list.now dst.old }
+    requires ranked { filters_in dst.old ≤ length ranks.now }
     ensures { dst.new ≡ start_words (filters_in dst.old) ranks.now list.now }
 {
     fill_all(list, dst);

@@ -4,5 +4,5 @@ use Rattle.std.proofs.Common.{arith}
 use Rattle.lists.specs.laws.Accepted.{accepted_count}
 use Rattle.slots.proofs.start_into.Goals as goal
 
-pub close-requires : goal.close-requires
-close-requires c = record { few = omega (arith, (accepted_count c.args.list.now _ c.requires.accepted.0 c.requires.accepted.1).2); whole = omega arith }
+pub close-requires-clause-whole : goal.close-requires-clause-whole
+close-requires-clause-whole c = record { few = omega (arith, (accepted_count c.args.list.now _ c.requires.starts.accepted.0 c.requires.starts.accepted.1).2); whole = omega arith }
