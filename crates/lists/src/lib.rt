@@ -3,7 +3,7 @@
 
 ghost use Rattle.std.specs.Prelude.{◌≡◌, ℕ, Bool, cond, not, ◌+◌, ◌*◌, ◌≤◌, ◌<◌, eqb, length, get_or, drop};
 ghost use Rattle.sets.specs.Sets.{set_of, tally};
-ghost use Rattle.lists.specs.Filters.{max_filters, head_words, test_words, count_word, test_of, item_of, filter_of, filters_of};
+ghost use Rattle.lists.specs.Filters.{max_filters, head_words, test_words, count_word, test_of, filter_of, filters_of};
 ghost use Rattle.lists.specs.Words.{words_of};
 ghost use Rattle.lists.specs.Refusals.{masked, test_fault, tests_fault, filter_fault, listed};
 ghost use Rattle.lists.specs.Ranks.{rank_sets};
@@ -181,23 +181,6 @@ impl TestWords {
         }
         Ok(())
     }
-}
-
-// The test that begins at a place of the words, and its field.
-#[tactic(auto, unfolding(crate::specs::Words::words_of, crate::specs::Filters::item_of))]
-pub fn test_at(words: &[u32], at: usize) -> Test
-    requires { at + test_words ≤ length words.now }
-    ensures { result ≡ (item_of (drop at words.now)).test }
-{
-    TestWords::at(words, at).test()
-}
-
-#[tactic(auto, unfolding(crate::specs::Filters::item_of))]
-pub fn field_at(words: &[u32], at: usize) -> u32
-    requires { at + test_words ≤ length words.now }
-    ensures { result ≡ (item_of (drop at words.now)).field }
-{
-    words[at + FIELD_AT]
 }
 
 // The first fault of the n tests that the words begin with.

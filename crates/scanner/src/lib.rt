@@ -1,14 +1,14 @@
 // A list and a frame, without a table: each filter is asked in turn (change request P1).
 #![tactic(auto)]
 
-ghost use Rattle.std.specs.Prelude.{◌≡◌, ◌&&◌, ℕ, ◌+◌, ◌-◌, ◌*◌, ◌≤◌, ◌<◌, eqb, length, drop};
+ghost use Rattle.std.specs.Prelude.{◌≡◌, ◌&&◌, ◌-◌, ◌≤◌, ◌<◌, eqb, length};
 ghost use Rattle.std.specs.Int.Bits.{bit_and};
 ghost use Rattle.sets.specs.Sets.{set_of, tally, member};
 ghost use Rattle.residue.specs.Tests.{holds_of};
 ghost use Rattle.fields.specs.Fields.{field};
 ghost use Rattle.fields.specs.Header.{reading_at};
 ghost use Rattle.lists.specs.declared.Counts.{Counts};
-ghost use Rattle.lists.specs.Filters.{max_filters, test_words, filter_words, item_of, filter_of, filters_of};
+ghost use Rattle.lists.specs.Filters.{max_filters, filter_words, test_of, filter_of, filters_of};
 ghost use Rattle.lists.specs.Refusals.{listed};
 ghost use Rattle.lists.specs.Ranks.{all_hold, fires, match_set};
 ghost use Rattle.lists.specs.inner.Columns.{above_by};
@@ -16,18 +16,17 @@ ghost use Rattle.scanner.specs.Scan.{scanned};
 ghost use Rattle.scanner.specs.inner.Standing.{beaten_by, stands_by, top_set};
 
 use fields::{Header, MAX_FRAME};
-use lists::{Filters, HEAD_WORDS, MAX_FILTERS, NO_RANK, Rank, TEST_WORDS};
+use lists::{Filters, HEAD_WORDS, MAX_FILTERS, NO_RANK, Rank, TEST_WORDS, TestWords};
 use refusals::{Refusal, Refused};
 use sets::Set;
 
-// Whether the test that begins at a place of the list holds. None holds on an absent field.
-fn holds_at(list: &[u32], at: usize, header: &Header) -> bool
-    requires { at + test_words ≤ length list.now }
-    ensures { result ≡ holds_of (item_of (drop at list.now)).test (reading_at header.now.present header.now.values (item_of (drop at list.now)).field) }
+// Whether a test holds. None holds on an absent field.
+fn holds(test: TestWords, header: &Header) -> bool
+    ensures { result ≡ holds_of (test_of test.kind test.mask test.value) (reading_at header.now.present header.now.values test.field) }
 {
     header
-        .reading(lists::field_at(list, at))
-        .is_some_and(|x| residue::test_holds(lists::test_at(list, at), x))
+        .reading(test.field)
+        .is_some_and(|x| residue::test_holds(test.test(), x))
 }
 
 // Whether all tests of the filter that the words begin with hold; left at the first that does not.
@@ -36,7 +35,7 @@ fn all_hold(words: &[u32], header: &Header) -> bool
     ensures { result ≡ all_hold (reading_at header.now.present header.now.values) (filter_of words.now).tests }
 {
     let count = lists::count_at(words, 0) as usize;
-    (0..count).all(|test| holds_at(words, HEAD_WORDS + TEST_WORDS * test, header))
+    (0..count).all(|j| holds(TestWords::at(words, HEAD_WORDS + TEST_WORDS * j), header))
 }
 
 // The set of an accepted list's filters whose tests all hold.

@@ -6,13 +6,10 @@
 --   rest_start, rest_next, rest_end   a loop over an accepted list: its start, its turn, its end
 --   rest_below, rest_sound            while words are left a filter follows, and it has no fault
 --   rest_filter                       the filters that are left: the one that the words begin with, and the rest
---   At ws n i at      the same by the place at which filter i begins, or the list ends
---   Here ws at        a filter begins there: its words are in the list, and its tests are few
---   at_start, at_next, at_end, at_here, at_rest   the same laws by places
 use Rattle.std.specs.Prelude.{ℕ, zero, suc, ◌+◌, ◌-◌, ◌≤◌, ◌<◌, ◌≡◌, refl, List, [], ◌∷◌, length, drop, Ok, Err}
-use Rattle.std.proofs.Common.{not-suc-le-zero, zero-lt-suc, arith, sym, ap, ◌∙◌, length-drop, drop-drop}
+use Rattle.std.proofs.Common.{not-suc-le-zero, arith, sym, ap, ◌∙◌, drop-drop}
 use Rattle.lists.specs.declared.Counts.{Counts}
-use Rattle.lists.specs.Filters.{max_filters, max_tests, head_words, count_word, filter_words, Filter, filter_of, filters_from, filters_of}
+use Rattle.lists.specs.Filters.{max_filters, count_word, filter_words, Filter, filter_of, filters_from, filters_of}
 use Rattle.refusals.specs.declared.Refusal.TheVariants.{ManyFilters}
 use Rattle.refusals.specs.declared.Refused.{Refused}
 use Rattle.refusals.specs.Numbers.{refused}
@@ -150,49 +147,3 @@ module _ (ws : List ℕ) (n i : ℕ) (r : List ℕ) (here : Rest ws n i r) where
     accepted_done (max_filters - i) i here.accepted.0 n here.accepted.1 (ap (listed_from (max_filters - i) i here.accepted.0) (sym e) ∙ here.accepted.2),
     sym here.filters ∙ ap (filters_from (max_filters - i)) e ∙ filters_none (max_filters - i),
   )
-
-  -- While filters are still to come, there are words.
-  rest_words : i < n → 0 < length r
-  rest_words h = go r refl
-    where
-      go : (xs : List ℕ) → r ≡ xs → 0 < length xs
-      go [] e = absurd (omega (arith, (rest_end e).0))
-      go (w ∷ xs) e = zero-lt-suc (length xs)
-
--- ---- by places
-
-pub record Here (ws : List ℕ) (at : ℕ) : Type 0 where
-  pub head : at + head_words ≤ length ws
-  pub count : count_word (drop at ws) ≤ max_tests
-  pub whole : at + filter_words (drop at ws) ≤ length ws
-
-abbrev pub At : (ws : List ℕ) (n i at : ℕ) → Type 0
-At ws n i at = Rest ws n i (drop at ws)
-
-pub at_start : (ws : List ℕ) (n t : ℕ) → listed ws ≡ Ok (counts n t) → At ws n 0 0
-at_start ws n t e = rest_start ws n t e
-
-module _ (ws : List ℕ) (n i at : ℕ) (here : At ws n i at) (h : i < n) where
-  words : 0 < length (drop at ws)
-  words = rest_words ws n i (drop at ws) here h
-
-  pub at_here : Here ws at
-  at_here =
-      let s = rest_sound ws n i (drop at ws) here words in
-      let l = length-drop at ws in
-      record { head = omega (arith, l, s.head); count = s.count; whole = omega (arith, l, s.head, s.whole) }
-
-  pub at_next : At ws n (i + 1) (at + filter_words (drop at ws))
-  at_next = rw (← drop-drop (filter_words (drop at ws)) at ws) (rest_next ws n i (drop at ws) here words)
-
-  pub at_rest : drop i (filters_of ws) ≡ filter_of (drop at ws) ∷ drop (i + 1) (filters_of ws)
-  at_rest = rest_filter ws n i (drop at ws) here words
-
-pub at_end : (ws : List ℕ) (n i at : ℕ) → At ws n i at → n ≤ i → drop i (filters_of ws) ≡ []
-at_end ws n i at here l = go (drop at ws) refl
-  where
-    go : (xs : List ℕ) → drop at ws ≡ xs → drop i (filters_of ws) ≡ []
-    go [] e = (rest_end ws n i (drop at ws) here e).1
-    go (w ∷ xs) e =
-        let m : 0 < length (drop at ws) = rw e (zero-lt-suc (length xs)) in
-        absurd (omega (arith, rest_below ws n i (drop at ws) here m))

@@ -4,12 +4,13 @@ use borrow.Author.Tests.{tests}
 use Rattle.std.proofs.lemmas.Iterator.{YieldsList-from_range}
 use Rattle.std.proofs.lemmas.Iterator.Search.{all_from_yields_List}
 use Rattle.fields.specs.Header.{reading_at}
-use Rattle.lists.specs.Filters.{head_words, test_words, count_word, filter_of}
+use Rattle.lists.specs.Filters.{head_words, test_words, count_word, item_of, filter_of}
+use Rattle.lists.specs.Words.{words_of}
 use Rattle.scanner.proofs.Scanning.{here, tests_range}
 use Rattle.scanner.proofs.all_hold.Goals as goal
 
 pub returns : goal.returns
-unfolding filter_of
+unfolding filter_of item_of words_of
 returns c =
     let r = reading_at c.args.header.now.present c.args.header.now.values in
     let n = count_word c.args.words.now in

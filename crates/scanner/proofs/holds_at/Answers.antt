@@ -1,9 +1,0 @@
-use Rattle.std.proofs.Common.{ap, rules, ◌∙◌}
-use borrow.Author.Tests.{tests}
-use Rattle.residue.specs.Tests.{holds_of}
-use Rattle.fields.specs.Header.{reading_at}
-use Rattle.scanner.proofs.Scanning.{held_by}
-use Rattle.scanner.proofs.holds_at.Goals as goal
-
-pub returns : goal.returns
-returns c = held_by _ _ _ _ c.is_some_and.ensures (λ x h. search (rules, tests)) ∙ ap (holds_of _) (c.reading.ensures ∙ ap (reading_at _ _) c.field_at.ensures)
