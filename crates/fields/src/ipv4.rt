@@ -9,11 +9,7 @@ use crate::bytes::{byte_at, four_at, two_at};
 use crate::ethernet::{IP_START, TYPE_AT};
 
 // The EtherType, and the bytes of the shortest header and of the shortest frame that has one.
-const IPV4: u32 = 0x0800;
-
-const IPV4_HIGH: u8 = (IPV4 / 256) as u8;
-
-const IPV4_LOW: u8 = (IPV4 % 256) as u8;
+const IPV4: u16 = 0x0800;
 
 const LEAST_HEADER: usize = 20;
 
@@ -64,7 +60,7 @@ fn is_first(byte: u8) -> bool
 pub fn packet_in(frame: &[u8]) -> Option<Part>
     ensures { result ≡ packet_in frame.now }
 {
-    if frame.len() < LEAST_FRAME || two_at(frame, TYPE_AT) != IPV4 {
+    if frame.len() < LEAST_FRAME || two_at(frame, TYPE_AT) != u32::from(IPV4) {
         return None;
     }
     let first = frame[IP_START];
@@ -93,8 +89,9 @@ pub fn packet_in(frame: &[u8]) -> Option<Part>
 pub fn may_be_packet(frame: &[u8]) -> bool
     ensures { result ≡ may_be_internet frame.now }
 {
-    frame.get(TYPE_AT).is_none_or(|byte| *byte == IPV4_HIGH)
-        && frame.get(TYPE_AT + 1).is_none_or(|byte| *byte == IPV4_LOW)
+    let [high, low] = IPV4.to_be_bytes();
+    frame.get(TYPE_AT).is_none_or(|byte| *byte == high)
+        && frame.get(TYPE_AT + 1).is_none_or(|byte| *byte == low)
         && frame.get(IP_START).is_none_or(|byte| is_first(*byte))
 }
 
@@ -114,12 +111,12 @@ impl Header {
         requires { 34 ≤ length frame.now }
         ensures { Added (internet_puts frame.now) self.old self.new }
     {
-        self.put(TYPE_OF_SERVICE, byte_at(frame, 15));
+        self.put(TYPE_OF_SERVICE, byte_at(frame, IP_START + 1));
         self.put(TOTAL_LENGTH, two_at(frame, TOTAL_AT));
         self.put(FRAGMENT, two_at(frame, FRAGMENT_AT));
-        self.put(TIME_TO_LIVE, byte_at(frame, 22));
+        self.put(TIME_TO_LIVE, byte_at(frame, IP_START + 8));
         self.put(PROTOCOL, byte_at(frame, PROTOCOL_AT));
-        self.put(SOURCE, four_at(frame, 26));
-        self.put(DESTINATION, four_at(frame, 30));
+        self.put(SOURCE, four_at(frame, IP_START + 12));
+        self.put(DESTINATION, four_at(frame, IP_START + 16));
     }
 }

@@ -5,7 +5,7 @@ ghost use Rattle.fields.specs.Transport.{tcp, udp, icmp, transport_puts};
 ghost use Rattle.fields.specs.inner.Parts.{Added, carried};
 
 use crate::Header;
-use crate::bytes::{byte_at, two_at};
+use crate::bytes::two_at;
 
 // Protocols.
 pub const TCP: u32 = 6;
@@ -49,10 +49,9 @@ impl Header {
         ensures { Added (transport_puts tcp part.now) self.old self.new }
     {
         self.fill_udp(part);
-        if part.len() < 14 {
-            return;
+        if let Some(flags) = part.get(13) {
+            self.put(TCP_FLAGS, u32::from(*flags));
         }
-        self.put(TCP_FLAGS, byte_at(part, 13));
     }
 
     // Type and code.
@@ -60,14 +59,12 @@ impl Header {
     fn fill_icmp(&mut self, part: &[u8])
         ensures { Added (transport_puts icmp part.now) self.old self.new }
     {
-        if part.len() < 1 {
-            return;
+        if let Some(kind) = part.first() {
+            self.put(ICMP_TYPE, u32::from(*kind));
         }
-        self.put(ICMP_TYPE, byte_at(part, 0));
-        if part.len() < 2 {
-            return;
+        if let Some(code) = part.get(1) {
+            self.put(ICMP_CODE, u32::from(*code));
         }
-        self.put(ICMP_CODE, byte_at(part, 1));
     }
 
     // The fields of a transport part, by its protocol.
