@@ -339,14 +339,24 @@ impl Counting<'_> {
     }
 }
 
+// Checks a list. Where it is refused, the filter's number is as wide as a record's.
+fn check(list: &[u32]) -> Result<Counts, Refused<u64>>
+    ensures { result ≡ listed list.now }
+{
+    lists::check(list).map_err(|refused| Refused {
+        refusal: refused.refusal,
+        place: u64::from(refused.place),
+    })
+}
+
 // Reads a list's text into the words, and checks it. The words behind them stay as they are.
 #[tactic(auto, using(text::specs::laws::Reading::reads_fit))]
-pub fn begin(text: &[u8], words: &mut [u32; MAX_ITEMS]) -> Result<Ready, Refused<u32>>
+pub fn begin(text: &[u8], words: &mut [u32; MAX_ITEMS]) -> Result<Ready, Refused<u64>>
     ensures { (result ≡ begun_by text.now) × (words.new ≡ words_of text.now ++ drop (length (words_of text.now)) words.old) }
 {
     let count = text::read_words(text, words)?;
     let list = &words[..count];
-    let checked = lists::check(list)?;
+    let checked = check(list)?;
     Ok(Ready {
         words: count,
         tallies: checked.filters as usize + LAST_TALLIES,
@@ -358,18 +368,11 @@ pub fn begin(text: &[u8], words: &mut [u32; MAX_ITEMS]) -> Result<Ready, Refused
 fn check_fit(list: &[u32], tallies: usize) -> Result<Counts, Refused<u64>>
     ensures { result ≡ fitted list.now tallies }
 {
-    match lists::check(list) {
-        Err(Refused { refusal, place }) => Err(Refused {
-            refusal,
-            place: u64::from(place),
-        }),
-        Ok(checked) => {
-            if tallies != checked.filters as usize + LAST_TALLIES {
-                return Err(Refusal::Tallies.into());
-            }
-            Ok(checked)
-        }
+    let checked = check(list)?;
+    if tallies != checked.filters as usize + LAST_TALLIES {
+        return Err(Refusal::Tallies.into());
     }
+    Ok(checked)
 }
 
 // Goes on with so many bytes at the front of the buffer, or all where it has fewer; those that wait for more come to its front,

@@ -58,6 +58,7 @@ fn print_lines(rt: &impl Print, numbers: &[u64]) -> io::Result<()> {
     Ok(())
 }
 
+// The tallies, or the refusal.
 fn print_answer(rt: &impl Print, answer: Answer, counts: &[u64]) -> io::Result<()> {
     match answer {
         Ok(_) => print_lines(rt, counts),
@@ -83,7 +84,7 @@ fn open<R: Eprint + Files>(rt: &R, name: &[u8]) -> Result<R::File, Unread> {
     file.map_err(|error| fail(rt, name, error))
 }
 
-// Why an argument gives no file's name.
+// Why an argument gives no file's name. Both types are the library's, so no `From` of this crate can say it.
 fn unnamed(error: FillError) -> io::Error {
     match error {
         FillError::NotPresent => io::Error::new(ErrorKind::InvalidInput, "Invalid argument"),
@@ -168,11 +169,8 @@ fn replay_text(
 {
     let mut words = [0u32; MAX_ITEMS];
     match captures::begin(text, &mut words) {
-        Err(Refused { refusal, place }) => Ok(Ended {
-            answer: Err(Refused {
-                refusal,
-                place: u64::from(place),
-            }),
+        Err(refused) => Ok(Ended {
+            answer: Err(refused),
             tallies: 0,
         }),
         Ok(ready) => {
@@ -187,6 +185,7 @@ fn replay_text(
     }
 }
 
+// Whether there is such an argument, of any length.
 fn is_given(rt: &impl Env, argument: usize) -> bool {
     let mut first = [0u8; 1];
     !matches!(rt.arg(argument, &mut first), Err(FillError::NotPresent))
