@@ -93,7 +93,8 @@ impl Builder<'_> {
         tables::write_fresh(&mut self.table[RECORD_WORDS * used..], fresh);
     }
 
-    // Makes the state after the question of the state in slot `at` came to an outcome.
+    // Makes the state after the question of the state in slot `at` came to an outcome. By a function of its own over the whole slots:
+    // of a slice behind `self` that a call is lent a part of, a proof knows no more than the length afterwards.
     fn step(&mut self, at: usize, outcome: Outcome)
         requires { at < self.old.slots }
         ensures { Made self.old (step_words (filters self.old) self.old.ranks.now outcome (state_at self.old at)) self.new }
