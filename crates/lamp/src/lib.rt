@@ -1,193 +1,142 @@
 // The activity lamp: whether any filter matches a frame, without saying which (change request P4).
 #![tactic(auto)]
 
-ghost use Rattle.std.specs.Prelude.{◌≡◌, cond, not, ◌||◌, ◌∷◌, [], ℕ, ◌+◌, ◌*◌, ◌≤◌, ◌<◌, eqb, ltb, length};
+ghost use Rattle.std.specs.Prelude.{◌≡◌, Ok};
 ghost use Rattle.fields.specs.Header.{reading_at};
 ghost use Rattle.lists.specs.Filters.{item_of, filters_of, tests_in};
+ghost use Rattle.lists.specs.Ranks.{rank_sets};
 ghost use Rattle.lists.specs.Refusals.{listed};
-ghost use Rattle.lists.specs.declared.Listed.TheVariants.{Accepted};
+ghost use Rattle.lists.specs.Words.{test_list};
 ghost use Rattle.states.specs.Runs.{way_of};
 ghost use Rattle.states.specs.States.{start};
-ghost use Rattle.tables.specs.Tables.{record_words, max_slots, slots_of};
-ghost use Rattle.tables.specs.inner.Records.{way_at};
-ghost use Rattle.lamp.specs.Lamp.{lamp_at, lamp_from, lamp_of};
-ghost use Rattle.lamp.specs.declared.Lamp.TheVariants.{Dark};
+ghost use Rattle.lamp.specs.Lamp.{lamp_from, lamp_of};
 ghost use Rattle.lamp.specs.inner.Records.{record_asks, Lighting};
 
-use fields::{FIELDS, MAX_FRAME, Values};
-use lists::{Listed, MAX_FILTERS};
-use residue::{Outcome, Reading};
+use fields::{Header, MAX_FRAME};
+use lists::{Counts, MAX_FILTERS, TestWords};
+use refusals::{Refusal, Refused};
+use residue::Outcome;
 use sets::Set;
 use slots::{FILTER_WORDS, SLOT_WORDS};
-use tables::{FIELD_AT, KIND_AT, MASK_AT, RECORD_WORDS, VALUE_AT};
+use tables::{KIND_AT, Record, Table};
 
-// What the lamp shows: lit or dark, with the questions asked; or a refusal's number with the filter's number. Refusals 12 and 13 name no filter.
-#[derive(Clone, Copy)]
+// What the lamp shows, lit or dark, with the questions asked.
+#[derive(Clone, Copy, Debug, PartialEq, Eq)]
 pub enum Lamp {
     Lit(u32),
     Dark(u32),
-    Refused(u32, u32),
 }
 
-// Whether record n asks the question of these words. Where there is none to ask the record's kind alone counts.
-fn record_asks(table: &[u32], n: usize, kind: u32, field: u32, mask: u32, value: u32) -> bool
-    requires few { n < max_slots }
-    requires in_bounds { record_words * (n + 1) ≤ length table.now }
-    ensures { result ≡ record_asks table.now n (kind ∷ field ∷ mask ∷ value ∷ []) }
+// Whether a record asks a question. Where there is none to ask the record's kind alone counts.
+#[tactic(auto, unfolding(crate::specs::inner::Records::record_asks, lists::specs::Words::words_of))]
+fn asks(record: &Record, question: TestWords) -> bool
+    ensures { result ≡ record_asks record.now question }
 {
-    let b = RECORD_WORDS * n;
-    if table[b + KIND_AT] != kind {
-        return false;
-    }
-    if kind == 0 {
-        return true;
-    }
-    (table[b + FIELD_AT] == field) & (table[b + MASK_AT] == mask) & (table[b + VALUE_AT] == value)
-}
-
-// What the question of these words comes to.
-fn way_of(present: u32, values: &Values, kind: u32, field: u32, mask: u32, value: u32) -> Outcome
-    ensures { result ≡ way_of (reading_at present values.now) (item_of (kind ∷ field ∷ mask ∷ value ∷ [])) }
-{
-    let Reading::Value(x) = fields::reading_at(present, values, field) else {
-        return Outcome::Absent;
-    };
-    if residue::test_holds(lists::test_of(kind, mask, value), x) {
-        Outcome::Holds
+    let asked = TestWords::at(record, KIND_AT);
+    if question.kind == 0 {
+        asked.kind == 0
     } else {
-        Outcome::Fails
+        asked == question
     }
 }
 
-// The next number that record n has at an outcome.
-fn way_at(table: &[u32], n: usize, o: Outcome) -> u32
-    requires few { n < max_slots }
-    requires in_bounds { record_words * (n + 1) ≤ length table.now }
-    ensures { result ≡ way_at table.now n o }
+// What a question comes to.
+#[tactic(auto, unfolding(states::specs::Runs::way_of, residue::specs::Facts::outcome_of, lists::specs::Filters::item_of))]
+fn way_of(header: &Header, question: TestWords) -> Outcome
+    ensures { result ≡ way_of (reading_at header.now.present header.now.values) (item_of (test_list question)) }
 {
-    table[RECORD_WORDS * n + tables::next_at(o)]
-}
-
-// Whether the walk goes no further than a record: it asks something else, a filter is held, or there is nothing to ask.
-fn ends(as_is: bool, held: bool, asks: bool) -> bool
-    ensures { result ≡ (not as_is || held || not asks) }
-{
-    !as_is | held | !asks
-}
-
-// The answer there. The record's check comes first.
-fn end(as_is: bool, held: bool, asked: u32) -> Lamp
-    ensures { result ≡ lamp_at as_is held asked (Dark asked) }
-{
-    if !as_is {
-        Lamp::Refused(13, 0)
-    } else if held {
-        Lamp::Lit(asked)
-    } else {
-        Lamp::Dark(asked)
+    match header.reading(question.field) {
+        Some(x) if residue::test_holds(question.test(), x) => Outcome::Holds,
+        Some(_) => Outcome::Fails,
+        None => Outcome::Absent,
     }
 }
 
 // The walk from record 0 and the start of an accepted list on, over a header that was read. The state is made in lent words, each next one in the room beside it.
 fn lamp_from(
     list: &[u32],
-    n: usize,
-    ranks: &[Set],
-    present: u32,
-    values: &Values,
-    table: &[u32],
-    states: u32,
+    ranks: &[Set; MAX_FILTERS],
+    header: &Header,
+    table: &Table,
     state: &mut [u32],
     room: &mut [u32],
-) -> Lamp
-    requires { Lighting list.now n ranks.now table.now states state.old room.old }
-    ensures { result ≡ lamp_from (filters_of list.now) table.now states (reading_at present values.now) (tests_in (filters_of list.now)) 0 0 (start (filters_of list.now)) }
+) -> Result<Lamp, Refused<u32>>
+    requires lighting { Lighting list.now state.old room.old }
+    requires ranked { ranks.now ≡ rank_sets (filters_of list.now) }
+    ensures { result ≡ lamp_from (filters_of list.now) table.now.words.now table.now.states (reading_at header.now.present header.now.values) (tests_in (filters_of list.now)) 0 0 (start (filters_of list.now)) }
 {
-    slots::start_into(list, state, n, ranks);
+    slots::start_into(list, state, ranks);
     let mut at: u32 = 0;
     let mut asked: u32 = 0;
     loop {
-        let s = at as usize;
-        let q = slots::question_of(state, n);
-        let as_is = record_asks(table, s, q.kind, q.field, q.mask, q.value);
-        let held = slots::held_set(state, n) != 0;
-        let asks = q.kind != 0;
-        if ends(as_is, held, asks) {
-            return end(as_is, held, asked);
+        let question = slots::question_of(state);
+        let held = slots::held_set(state);
+        let record = table.record(at);
+        let right = asks(record, question);
+        let is_other = !right;
+        if is_other {
+            return Err(Refusal::Table.into());
         }
-        let way = way_of(present, values, q.kind, q.field, q.mask, q.value);
-        at = way_at(table, s, way);
-        if states <= at {
-            return Lamp::Refused(13, 0);
+        let is_lit = held != sets::EMPTY;
+        if is_lit {
+            return Ok(Lamp::Lit(asked));
         }
-        slots::step_by(state, room, n, ranks, q, way);
-        words::copy_into(state, room);
+        if question.kind == 0 {
+            return Ok(Lamp::Dark(asked));
+        }
+        let way = way_of(header, question);
+        at = record[tables::next_at(way)];
+        if table.states <= at {
+            return Err(Refusal::Table.into());
+        }
+        slots::step_by(state, room, ranks, question, way);
+        state.copy_from_slice(room);
         asked += 1;
     }
 }
 
-// Whether a number of states is 0 or above the table's slots.
-fn misfits(table: &[u32], states: u32) -> bool
-    ensures { result ≡ (eqb states 0 || ltb (slots_of table.now) states) }
-{
-    (states == 0) | (tables::slots_of(table.len()) < states as usize)
-}
-
-// The refusal's number before the walk: 12 for a frame that is too long, then 13 for a number of states that misfits; 0 for none.
-fn fault_of(long: bool, misfit: bool) -> u32
-    ensures { result ≡ cond long 12 (cond misfit 13 0) }
-{
-    if long {
-        12
-    } else if misfit {
-        13
-    } else {
-        0
-    }
-}
-
-// The lamp for an accepted list of n filters: the words of two states and the rank sets are its own.
+// The lamp for an accepted list: the words of two states and the rank sets are its own.
 fn light_accepted(
     list: &[u32],
-    n: usize,
-    frame: &[u8],
-    port: u8,
-    table: &[u32],
-    states: u32,
-) -> Lamp
-    requires { (t : ℕ) × (listed list.now ≡ Accepted n t) }
-    ensures { result ≡ lamp_of list.now frame.now port table.now states }
+    counts: Counts,
+    header: &Header,
+    table: &Table,
+) -> Result<Lamp, Refused<u32>>
+    requires { listed list.now ≡ Ok counts }
+    ensures { result ≡ lamp_from (filters_of list.now) table.now.words.now table.now.states (reading_at header.now.present header.now.values) (tests_in (filters_of list.now)) 0 0 (start (filters_of list.now)) }
 {
-    let fault = fault_of(MAX_FRAME < frame.len(), misfits(table, states));
-    if fault != 0 {
-        return Lamp::Refused(fault, 0);
-    }
     let mut ranks = [sets::EMPTY; MAX_FILTERS];
     lists::rank_sets(list, &mut ranks);
-    let mut values = [0u32; FIELDS];
-    let present = fields::read_header(frame, port, &mut values);
-    let width = FILTER_WORDS * n;
+    let width = FILTER_WORDS * counts.filters as usize;
     let mut state = [0u32; SLOT_WORDS];
     let mut room = [0u32; SLOT_WORDS];
     lamp_from(
         list,
-        n,
         &ranks,
-        present,
-        &values,
+        header,
         table,
-        states,
         &mut state[..width],
         &mut room[..width],
     )
 }
 
 // Whether anything matches, for any list, frame, table and number of states.
-pub fn light(list: &[u32], frame: &[u8], port: u8, table: &[u32], states: u32) -> Lamp
+#[tactic(auto, using(fields::proofs::laws::Header::read_once), unfolding(crate::specs::Lamp::lamp_of, crate::specs::Lamp::lamp_by))]
+pub fn light(
+    list: &[u32],
+    frame: &[u8],
+    port: u8,
+    table: &[u32],
+    states: u32,
+) -> Result<Lamp, Refused<u32>>
     ensures { result ≡ lamp_of list.now frame.now port table.now states }
 {
-    match lists::check(list) {
-        Listed::Refused(number, filter) => Lamp::Refused(number, filter),
-        Listed::Accepted(n, _) => light_accepted(list, n as usize, frame, port, table, states),
+    let counts = lists::check(list)?;
+    if MAX_FRAME < frame.len() {
+        return Err(Refusal::LongFrame.into());
     }
+    let table = Table::new(table, states).ok_or(Refusal::Table)?;
+    let mut header = Header::new();
+    header.read(frame, port);
+    light_accepted(list, counts, &header, &table)
 }

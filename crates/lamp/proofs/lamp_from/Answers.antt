@@ -1,79 +1,85 @@
--- `lamp::lamp_from` meets its contract. The loop's invariant: the words are those of the state that the walk has reached, and what is left of the walk answers the whole.
--- A turn goes on by the state's own question, so one test fewer remains. Assumes nothing.
-use Prim.Native.Nat.{ℕ}
-use native.Mathlib.Omega.{arith}
-use mathlib.Core.Path.{refl, sym, ap, ◌∙◌}
-use mathlib.Core.Bool.{not}
-use mathlib.Core.List.{[], ◌∷◌}
-use lib.Dec.{eqb}
+-- `lamp::lamp_from` meets its contract: the words are those of the state that the walk has reached, and what is left of the walk answers the whole.
+-- Assumes nothing.
+use Rattle.std.proofs.Common.{arith, sym, ap, ◌∙◌, Err, get_or}
 use Rattle.fields.specs.Header.{reading_at}
 use Rattle.lists.specs.Filters.{filters_of}
 use Rattle.lists.specs.laws.Accepted.{accepted_count, accepted_well}
-use Rattle.lists.specs.laws.Ranking.{length_rank_sets}
+use Rattle.slots.specs.inner.Steps.{filters_in}
+use Rattle.slots.specs.laws.Counting.{whole_state}
 use Rattle.slots.specs.laws.Written.{start_accepted}
-use Rattle.lamp.proofs.Steps.{copied, walking_start, ended_here, Asking, asking, gone_astray, fewer_left, gone_on}
+use Rattle.tables.proofs.laws.Layout.{next_within}
+use Rattle.lamp.proofs.Steps.{state_counts, walking_start, refused_here, lit_here, dark_here, Asking, asking, gone_astray, fewer_left, gone_on}
 use Rattle.lamp.proofs.lamp_from.Goals as goal
-use Rattle.lamp.proofs.lamp_from.Goals.{Else-ends}
+use Rattle.lamp.proofs.lamp_from.Goals.{Else-question-eq0}
 
 -- The walk asks on: there is a question, and its record asks it.
 asks_on :
-    (c : Else-ends) →
-    let q = c.question_of-q.result in
-    Asking (filters_of c.args.list.now) c.args.table.now c.args.states (reading_at c.args.present c.args.values.now) c.loop-q.state c.loop-q.asked c.loop-q.at c.args.n
-    (q.kind ∷ q.field ∷ q.mask ∷ q.value ∷ [])
+    (c : Else-question-eq0) →
+    Asking (filters_of c.args.list.now) c.args.table.now.words.now c.args.table.now.states (reading_at c.args.header.now.present c.args.header.now.values) c.loop-record.state c.loop-record.asked c.loop-record.at c.question_of-question.result
 asks_on c =
-    let count = accepted_count _ _ _ c.requires.accepted.1 in
-    asking _ _ _ _ c.loop-q.invariant.0 _ count.0 count.2 _ c.question_of-q.ensures c.record_asks-as_is.ensures (ap (λ (o : ℕ). not (eqb o 0)) c.held_set-held.ensures) refl
-    (sym c.ends.ensures ∙ c.if-ends.false)
+    let n = state_counts _ c.args.state.now _ _ c.requires.lighting.accepted.1 (omega arith) in
+    asking _ _ _ _ c.loop-record.invariant n.0 n.1 _ c.question_of-question.ensures _ c.record-record.ensures (sym c.asks-right.ensures ∙ c.if-is_other.false) _ c.held_set-held.ensures c.if-is_lit.false c.if-question-eq0.false
 
-pub start_into-requires : goal.start_into-requires
-start_into-requires c = let n = (accepted_count _ _ _ c.requires.accepted.1).2 in
-    record {
-      starts = record { accepted = c.requires.accepted; target = c.requires.source };
-      n_in_bounds = rw (c.requires.ranked, length_rank_sets (filters_of c.args.list.now)) n;
-    }
+pub start_into-requires-clause-ranked : goal.start_into-requires-clause-ranked
+start_into-requires-clause-ranked c = let count = accepted_count _ _ _ c.requires.lighting.accepted.1 in omega (arith, count.2)
 
-pub loop-q-init : goal.loop-q-init
-loop-q-init c = (
-  walking_start _ _ _ _ _ (accepted_well _ _ _ c.requires.accepted.1) c.requires.fits.some ((rw c.requires.ranked at c.start_into.ensures) ∙ start_accepted _ _ _ c.requires.accepted.1),
-  c.start_into.auto.dst ∙ c.requires.source,
-  c.requires.target,
-)
+pub loop-record-init : goal.loop-record-init
+loop-record-init c =
+    walking_start _ _ _ _ _ (accepted_well _ _ _ c.requires.lighting.accepted.1) c.args.table.now.some
+    ((rw c.requires.ranked at c.start_into.ensures) ∙ start_accepted _ _ _ c.requires.lighting.accepted.1)
 
-pub question_of-q-requires : goal.question_of-q-requires
-question_of-q-requires c = record { few = (accepted_count _ _ _ c.requires.accepted.1).2; whole = c.loop-q.invariant.1 }
+pub returns-then-is_other : goal.returns-then-is_other
+returns-then-is_other c =
+    let n = state_counts _ c.args.state.now _ _ c.requires.lighting.accepted.1 (omega arith) in
+    ap Err c.into.ensures ∙
+    refused_here _ _ _ _ c.loop-record.invariant n.0 n.1 _ c.question_of-question.ensures _ c.record-record.ensures (sym c.asks-right.ensures ∙ c.if-is_other.true)
 
 pub held_set-held-requires : goal.held_set-held-requires
-held_set-held-requires c = record { few = (accepted_count _ _ _ c.requires.accepted.1).2; whole = c.loop-q.invariant.1 }
+held_set-held-requires c =
+    let count = accepted_count _ _ _ c.requires.lighting.accepted.1 in
+    whole_state (filters_in c.args.state.now) _ count.2 (omega (arith, c.requires.lighting.source))
 
-pub returns-then-ends : goal.returns-then-ends
-returns-then-ends c = let count = accepted_count _ _ _ c.requires.accepted.1 in
-    c.end.ensures ∙
-    ended_here _ _ _ _ c.loop-q.invariant.0 _ count.0 count.2 _ c.question_of-q.ensures c.record_asks-as_is.ensures (ap (λ (o : ℕ). not (eqb o 0)) c.held_set-held.ensures) refl
-    (sym c.ends.ensures ∙ c.if-ends.true)
+pub returns-then-is_lit : goal.returns-then-is_lit
+returns-then-is_lit c =
+    let n = state_counts _ c.args.state.now _ _ c.requires.lighting.accepted.1 (omega arith) in
+    lit_here _ _ _ _ c.loop-record.invariant n.0 n.1 _ c.question_of-question.ensures _ c.record-record.ensures (sym c.asks-right.ensures ∙ c.if-is_other.false) _ c.held_set-held.ensures c.if-is_lit.true
 
-pub returns-then-states-at : goal.returns-then-states-at
-returns-then-states-at c = gone_astray (asks_on (goal.at.returns-then-states-at c).Else-ends) _ c.way_of-way.ensures _ c.way_at-at.ensures c.if-states-at.true
+pub returns-then-question-eq0 : goal.returns-then-question-eq0
+returns-then-question-eq0 c =
+    let n = state_counts _ c.args.state.now _ _ c.requires.lighting.accepted.1 (omega arith) in
+    dark_here _ _ _ _ c.loop-record.invariant n.0 n.1 _ c.question_of-question.ensures _ c.record-record.ensures (sym c.asks-right.ensures ∙ c.if-is_other.false) _ c.held_set-held.ensures c.if-is_lit.false c.if-question-eq0.true
 
-pub step_by-requires : goal.step_by-requires
-step_by-requires c = let small = (accepted_count _ _ _ c.requires.accepted.1).2 in
+pub offset_bounds-record-next_at : goal.offset_bounds-record-next_at
+offset_bounds-record-next_at c = omega (arith, c.next_at.ensures, next_within c.way_of-way.result)
+
+pub bounds-record-next_at : goal.bounds-record-next_at
+bounds-record-next_at c = omega (arith, c.next_at.ensures, next_within c.way_of-way.result)
+
+pub returns-then-table-at : goal.returns-then-table-at
+returns-then-table-at c =
+    ap Err c.into-then-table-at.ensures ∙
+    gone_astray (asks_on (goal.at.returns-then-table-at c).Else-question-eq0) _ c.way_of-way.ensures _ c.record-record.ensures _ (ap (λ j. get_or c.record-record.result.now j 0) c.next_at.ensures) c.if-table-at.true
+
+pub step_by-requires-clause-both : goal.step_by-requires-clause-both
+step_by-requires-clause-both c =
+    let count = accepted_count _ _ _ c.requires.lighting.accepted.1 in
     record {
-      few = small;
-      source = c.loop-q.invariant.1;
-      target = c.loop-q.invariant.2;
-      ranked = rw (c.requires.ranked, length_rank_sets (filters_of c.args.list.now)) small;
+      source = whole_state (filters_in c.args.state.now) _ count.2 (omega (arith, c.requires.lighting.source));
+      target = omega (arith, c.requires.lighting.target);
     }
 
+pub step_by-requires-clause-ranked : goal.step_by-requires-clause-ranked
+step_by-requires-clause-ranked c = let count = accepted_count _ _ _ c.requires.lighting.accepted.1 in omega (arith, count.2)
+
 pub overflow_add-asked : goal.overflow_add-asked
-overflow_add-asked c = let tests = accepted_count _ _ _ c.requires.accepted.1 in
-    omega (arith, fewer_left (asks_on (goal.at.overflow_add-asked c).Else-ends), tests.1, tests.2, tests.3)
+overflow_add-asked c =
+    let tests = accepted_count _ _ _ c.requires.lighting.accepted.1 in
+    omega (arith, fewer_left (asks_on (goal.at.overflow_add-asked c).Else-question-eq0), tests.1, tests.2, tests.3)
 
-pub loop-q-smaller : goal.loop-q-smaller
-loop-q-smaller c = omega (arith, fewer_left (asks_on (goal.at.loop-q-smaller c).Else-ends))
+pub loop-record-smaller : goal.loop-record-smaller
+loop-record-smaller c = omega (arith, fewer_left (asks_on (goal.at.loop-record-smaller c).Else-question-eq0))
 
-pub loop-q-preserved : goal.loop-q-preserved
-loop-q-preserved c = (
-  gone_on (asks_on (goal.at.loop-q-preserved c).Else-ends) _ c.way_of-way.ensures _ c.way_at-at.ensures _ c.requires.ranked c.if-states-at.false _ (c.copy_into.ensures ∙ copied _ _ (omega arith) ∙ c.step_by.ensures),
-  omega arith,
-  omega arith,
-)
+pub loop-record-preserved : goal.loop-record-preserved
+loop-record-preserved c =
+    gone_on (asks_on (goal.at.loop-record-preserved c).Else-question-eq0) _ c.way_of-way.ensures _ c.record-record.ensures _ (ap (λ j. get_or c.record-record.result.now j 0) c.next_at.ensures) _ c.requires.ranked c.if-table-at.false _
+    (c.copy_from_slice.ensures.after ∙ c.step_by.ensures)

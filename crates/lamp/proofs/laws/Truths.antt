@@ -2,21 +2,19 @@
 --   held_some, final_none      a held filter of a state that tells the truth means that some filter matches; a final state without one, that none does
 --   lamp_shows                 the whole answer for an accepted list: refused, or the end of the frame's path
 --   shows_lit, shows_asked     what an answer that is no refusal says of the match set and of the questions
-use Rattle.std.specs.Prelude.{ℕ, ◌≤◌, ◌<◌, ◌≡◌, Bool, ◌||◌, List, eqb, length}
+use Rattle.std.specs.Prelude.{ℕ, ◌≤◌, ◌<◌, ◌≡◌, Bool, ◌||◌, List, eqb, length, Option, Ok, Err}
 use Rattle.std.proofs.Common.{zero-add, arith, sym, ◌∙◌, subst, ltb-true, ltb-false}
 use Rattle.std.proofs.Math.Path.{refl, ap}
 use Rattle.std.proofs.Math.Bool.{true, false, not, or-true}
 use Rattle.std.proofs.lemmas.Bool.{false≢true}
 use Rattle.std.proofs.Math.Dec.{ltb}
-use Rattle.residue.specs.declared.Reading.{Reading}
 use Rattle.fields.specs.Ethernet.{max_frame}
 use Rattle.fields.specs.Fields.{field}
 use Rattle.sets.specs.Sets.{bit, some}
 use Rattle.sets.specs.laws.Members.{zero_tally, some_true, some_where, some_none}
 use Rattle.lists.specs.Filters.{Filter, filters_of, tests_in}
 use Rattle.lists.specs.Ranks.{matches, match_set}
-use Rattle.lists.specs.Refusals.{listed}
-use Rattle.lists.specs.declared.Listed.TheVariants.{Accepted}
+use Rattle.lists.specs.Refusals.{listed, counts}
 use Rattle.lists.specs.inner.Well.{well_filters}
 use Rattle.lists.specs.laws.Accepted.{accepted_well}
 use Rattle.lists.specs.laws.Topmost.{fires_below, top_matches, topmost}
@@ -31,13 +29,15 @@ use Rattle.states.proofs.laws.Sure.{out_not_matches, final_standing}
 use Rattle.states.proofs.laws.Truth.{Tells, InWidths, held_fires}
 use Rattle.states.proofs.laws.Well.{well_start}
 use Rattle.tables.specs.Tables.{slots_of}
-use Rattle.lamp.specs.Lamp.{numbers_of, some_held, lamp_ends, lamp_of}
-use Rattle.lamp.specs.declared.Lamp.{Lamp}
-use Rattle.lamp.specs.declared.Lamp.TheVariants.{Lit, Dark, Refused}
+use Rattle.lamp.specs.Lamp.{Answer, numbers_of, some_held, lamp_ends, lamp_of}
+use Rattle.lamp.specs.declared.Lamp.TheVariants.{Lit, Dark}
+use Rattle.refusals.specs.declared.Refusal.TheVariants.{Table}
+use Rattle.refusals.specs.Numbers.{number_of}
+use Rattle.refusals.specs.laws.Above.{number_above}
 use Rattle.lamp.proofs.laws.Turns.{lamp_misfit, lamp_walks}
 use Rattle.lamp.proofs.laws.Ends.{LampEnded, LampShows, from_shows}
 
-module _ (fs : List Filter) (r : ℕ → Reading) where
+module _ (fs : List Filter) (r : ℕ → Option ℕ) where
   -- The match set is empty exactly where no filter matches.
   empty_is : eqb (match_set fs r) 0 ≡ not (some (length fs) (λ i. matches fs r i))
   unfolding match_set
@@ -81,10 +81,10 @@ module _ (fs : List Filter) (r : ℕ → Reading) where
     ended_dark : {j : ℕ} → LampEnded fs r 0 (start fs) false j → 0 ≡ bit (not (eqb (match_set fs r) 0))
     ended_dark x = rw (final_none (after fs r x.more) (truth x) (x.final refl) x.held)
 
-    pub shows_lit : (x : Lamp) → LampShows fs r 0 (start fs) x → (numbers_of x).refusal ≡ 0 → (numbers_of x).lit ≡ bit (not (eqb (match_set fs r) 0))
-    shows_lit (Lit j) x z = ended_lit x
-    shows_lit (Dark j) x z = ended_dark x
-    shows_lit (Refused c i) x z = absurd (x z)
+    pub shows_lit : (x : Answer) → LampShows fs r 0 (start fs) x → (numbers_of x).refusal ≡ 0 → (numbers_of x).lit ≡ bit (not (eqb (match_set fs r) 0))
+    shows_lit (Ok (Lit j)) x z = ended_lit x
+    shows_lit (Ok (Dark j)) x z = ended_dark x
+    shows_lit (Err e) x z = absurd (x z)
 
   -- The first state that ends the walk.
   abbrev First : ℕ → Type 0
@@ -99,19 +99,19 @@ module _ (fs : List Filter) (r : ℕ → Reading) where
   ended_first lit j x =
       subst First (sym (x.counted ∙ zero-add x.more)) (ends_at (after fs r x.more) lit x.held x.final, x.before)
 
-  pub shows_asked : (x : Lamp) → LampShows fs r 0 (start fs) x → (numbers_of x).refusal ≡ 0 → First (numbers_of x).asked
-  shows_asked (Lit j) x z = ended_first true j x
-  shows_asked (Dark j) x z = ended_first false j x
-  shows_asked (Refused c i) x z = absurd (x z)
+  pub shows_asked : (x : Answer) → LampShows fs r 0 (start fs) x → (numbers_of x).refusal ≡ 0 → First (numbers_of x).asked
+  shows_asked (Ok (Lit j)) x z = ended_first true j x
+  shows_asked (Ok (Dark j)) x z = ended_first false j x
+  shows_asked (Err e) x z = absurd (x z)
 
 -- ---- the whole answer
 
 pub lamp_shows :
-    (l f : List ℕ) (p : ℕ) (t : List ℕ) (m c k : ℕ) → listed l ≡ Accepted c k → length f ≤ max_frame → LampShows (filters_of l) (field f p) 0 (start (filters_of l)) (lamp_of l f p t m)
+    (l f : List ℕ) (p : ℕ) (t : List ℕ) (m c k : ℕ) → listed l ≡ Ok (counts c k) → length f ≤ max_frame → LampShows (filters_of l) (field f p) 0 (start (filters_of l)) (lamp_of l f p t m)
 lamp_shows l f p t m c k e short = go (eqb m 0 || ltb (slots_of t) m) refl
   where
     go : (b : Bool) → (eqb m 0 || ltb (slots_of t) m) ≡ b → LampShows (filters_of l) (field f p) 0 (start (filters_of l)) (lamp_of l f p t m)
-    go true z = rw (lamp_misfit l f p t m c k e short z) (λ (x : ◌≡◌ {A = ℕ} 13 0). omega arith)
+    go true z = rw (lamp_misfit l f p t m c k e short z) (λ (x : number_of Table ≡ 0). omega (arith, number_above Table))
     go false z =
         let fs = filters_of l in
         rw (lamp_walks l f p t m c k e short z)
