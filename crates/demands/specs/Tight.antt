@@ -3,7 +3,8 @@ use Rattle.std.specs.Prelude.{ℕ, ◌≡◌, refl, List, Result, Ok, Err}
 use Rattle.std.proofs.Common.{sym, ap, ◌∙◌}
 use Rattle.refusals.specs.declared.Refusal.{Refusal}
 use Rattle.refusals.specs.declared.Refused.{Refused}
-use Rattle.fields.specs.Header.{Header}
+use Rattle.fields.specs.Header.{HeaderOf}
+use Rattle.fields.specs.declared.Header.{Header}
 use Rattle.builder.specs.Outcome as O
 use Rattle.builder.specs.Tight.{answered_one}
 use Rattle.matcher.specs.declared.Walk.{Walk}
@@ -23,9 +24,9 @@ pub build_tight :
     (a ≡ b) × (ta ≡ tb) × (sa ≡ sb)
 build_tight l t s = answered_one (O.outcome l t s)
 
--- Reading a header: the set, and each of the lent words.
-pub header_tight : (f : List ℕ) (p : ℕ) (old vs ws : List ℕ) (x y : ℕ) → Header f p old vs x → Header f p old ws y → (x ≡ y) × (vs ≡ ws)
-header_tight f p old vs ws x y u v = (u.set ∙ sym v.set, u.words ∙ sym v.words)
+-- Reading a header: the set, and each of its words.
+pub header_tight : (f : List ℕ) (p : ℕ) (old x y : Header) → HeaderOf f p old x → HeaderOf f p old y → (x.present ≡ y.present) × (x.values ≡ y.values)
+header_tight f p old x y u v = (u.set ∙ sym v.set, u.words ∙ sym v.words)
 
 -- Classifying writes nothing, and its answer is determined.
 pub classify_tight : (f : List ℕ) (p : ℕ) (t : List ℕ) (m a : ℕ) (x y : Result Walk Refusal) → x ≡ W.walk f p t m a → y ≡ W.walk f p t m a → x ≡ y

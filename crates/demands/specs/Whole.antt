@@ -2,7 +2,7 @@
 --   Told l t s f p a x    demands 2 and 3 of the answer x of a walk
 --   Whole l t s f p a x   the answer x is a build's refusal, or a walk of which demands 2 and 3 hold; a frame that is too long is refused by the walk
 --   Rooms b t' s'         the table and the scratch afterwards
-use Rattle.std.specs.Prelude.{ℕ, ◌≤◌, ◌≡◌, true, false, not, ◌&&◌, ◌⊎◌, List, length, Result, Err}
+use Rattle.std.specs.Prelude.{ℕ, ◌≤◌, ◌<◌, ◌≡◌, true, false, not, ◌&&◌, ◌⊎◌, List, length, Result, Err}
 use Rattle.refusals.specs.declared.Refusal.{Refusal}
 use Rattle.refusals.specs.declared.Refused.{Refused}
 use Rattle.fields.specs.Ethernet.{max_frame}

@@ -29,10 +29,10 @@ pub enum Lamp {
 
 // Whether a record asks a question. Where there is none to ask the record's kind alone counts.
 #[tactic(auto, unfolding(crate::specs::inner::Records::record_asks, lists::specs::Words::words_of))]
-fn asks(record: &Record, question: TestWords) -> bool
-    ensures { result ≡ record_asks record.now question }
+fn asks(words: &Record, question: TestWords) -> bool
+    ensures { result ≡ record_asks words.now question }
 {
-    let asked = TestWords::at(record, KIND_AT);
+    let asked = TestWords::at(words, KIND_AT);
     if question.kind == 0 {
         asked.kind == 0
     } else {

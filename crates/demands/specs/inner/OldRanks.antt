@@ -2,6 +2,7 @@
 --   old_above fs i j       filter i ranked above filter j: in one group, group 0 too
 --   matches_under .. outcome_under   the match set; states, their steps and sets; a list's machine, states and records; what building answers and leaves
 use Rattle.std.specs.Prelude.{ℕ, ◌+◌, Bool, cond, not, ◌&&◌, ◌||◌, List, [], ◌∷◌, ◌++◌, map, ltb, eqb, length, drop, Option, Ok, Err}
+use Rattle.refusals.specs.Numbers.{unplaced}
 use Rattle.refusals.specs.declared.Refusal.TheVariants.{ScratchRoom}
 use Rattle.residue.specs.Facts.{fact_of}
 use Rattle.residue.specs.declared.Outcome.{Outcome}
@@ -101,11 +102,11 @@ module _ (ranks : Ranking) where
 
   unfoldable pub by_room_under : List Filter → List ℕ → List ℕ → Left
   by_room_under fs t s =
-      cond (ltb (length s) (scratch_words t)) (refused ScratchRoom 0 t s)
+      cond (ltb (length s) (scratch_words t)) (refused (unplaced ScratchRoom) t s)
       (cond (ltb (slots_of t) (length (states_under fs))) (no_room t s) (placed_under fs t s))
 
   unfoldable pub outcome_by_under : Listed → List ℕ → List ℕ → List ℕ → Left
-  outcome_by_under (Err r) l t s = refused r.refusal r.place t s
+  outcome_by_under (Err r) l t s = refused r t s
   outcome_by_under (Ok c) l t s = by_room_under (filters_of l) t s
 
   unfoldable pub outcome_under : List ℕ → List ℕ → List ℕ → Left

@@ -6,6 +6,7 @@ use Rattle.std.proofs.Math.Path.{refl, ap}
 use Rattle.std.proofs.Math.Bool.{true, false}
 use Rattle.std.proofs.Math.Dec.{ltb}
 use Rattle.std.proofs.Math.ListN.{length}
+use Rattle.refusals.specs.Numbers.{number_of, unplaced}
 use Rattle.refusals.specs.declared.Refusal.TheVariants.{ScratchRoom}
 use Rattle.lists.specs.Filters.{Filter, filters_of}
 use Rattle.lists.specs.inner.Well.{well_filters}
@@ -26,31 +27,31 @@ pub record Success (l t s : List ℕ) : Type 0 where
 
 module _ (fs : List Filter) (t s : List ℕ) where
   accepted_cases :
-      (P : Left → Type 0) → (length s < scratch_words t → P (refused ScratchRoom 0 t s)) → (scratch_words t ≤ length s → slots_of t < length (states_of fs) → P (no_room t s)) →
+      (P : Left → Type 0) → (length s < scratch_words t → P (refused (unplaced ScratchRoom) t s)) → (scratch_words t ≤ length s → slots_of t < length (states_of fs) → P (no_room t s)) →
       (scratch_words t ≤ length s → length (states_of fs) ≤ slots_of t → P (placed fs t s)) → P (by_room fs t s)
   unfolding by_room
   accepted_cases P f g k = go (ltb (length s) (scratch_words t)) (ltb (slots_of t) (length (states_of fs))) refl refl
     where
       go : (b c : Bool) → ltb (length s) (scratch_words t) ≡ b → ltb (slots_of t) (length (states_of fs)) ≡ c →
-          P (cond b (refused ScratchRoom 0 t s) (cond c (no_room t s) (placed fs t s)))
+          P (cond b (refused (unplaced ScratchRoom) t s) (cond c (no_room t s) (placed fs t s)))
       go true c p q = f (ltb-true _ _ p)
       go false true p q = g (ltb-false _ _ p) (ltb-true _ _ q)
       go false false p q = k (ltb-false _ _ p) (ltb-false _ _ q)
 
   accepted_built : refusal_of (by_room fs t s).answer ≡ 0 → (length (states_of fs) ≤ slots_of t) × (by_room fs t s ≡ placed fs t s)
-  unfolding refused no_room placed
+  unfolding refused no_room placed number_of
   accepted_built =
       accepted_cases (λ (x : Left). refusal_of x.answer ≡ 0 → (length (states_of fs) ≤ slots_of t) × (x ≡ placed fs t s))
       (λ _ e. absurd (omega arith)) (λ _ _ e. absurd (omega arith)) (λ _ l e. (l, refl))
 
   accepted_full : scratch_words t ≤ length s → (refusal_of (by_room fs t s).answer ≡ 11 → slots_of t < length (states_of fs)) × (slots_of t < length (states_of fs) → refusal_of (by_room fs t s).answer ≡ 11)
-  unfolding refused no_room placed
+  unfolding refused no_room placed number_of
   accepted_full enough =
       accepted_cases (λ (x : Left). (refusal_of x.answer ≡ 11 → slots_of t < length (states_of fs)) × (slots_of t < length (states_of fs) → refusal_of x.answer ≡ 11))
       (λ less. absurd (omega arith)) (λ _ l. ((λ _. l), (λ _. refl))) (λ _ l. ((λ e. absurd (omega arith)), (λ m. absurd (omega arith))))
 
   accepted_fits : scratch_words t ≤ length s → length (states_of fs) ≤ slots_of t → refusal_of (by_room fs t s).answer ≡ 0
-  unfolding refused no_room placed
+  unfolding refused no_room placed number_of
   accepted_fits enough room =
       accepted_cases (λ (x : Left). refusal_of x.answer ≡ 0) (λ less. absurd (omega arith)) (λ _ l. absurd (omega arith)) (λ _ _. refl)
 

@@ -19,7 +19,7 @@ use Rattle.tables.specs.Tables.{record_words, max_slots, slots_of}
 use Rattle.machine.specs.Box.{records_in}
 use Rattle.matcher.specs.Walk.{found, is_done}
 use Rattle.scanner.specs.Scan.{scanned}
-use Rattle.scanner.specs.laws.Scans.{scanned_set}
+use Rattle.scanner.proofs.laws.Scans.{scanned_set}
 use Rattle.lamp.specs.Lamp.{numbers_of, lamp_of}
 use Rattle.builder.specs.Outcome.{refusal_of, number_of, placed, outcome}
 use Rattle.labels.specs.Labels.{shown_at, readings, met_in, Legal}
@@ -69,7 +69,7 @@ module _ (l t s : List ℕ) (built : refusal_of (outcome l t s).answer ≡ 0) wh
 
     pub all_scanned : (a : ℕ) → tests_in fs ≤ a → scanned l f p ≡ Ok (found (walked l t s f p a)).sure
     all_scanned a enough =
-        scanned_set l f p success.listing.0 success.listing.1 success.listing.2 legal.short ∙
+        scanned_set l f p _ success.listing.2 legal.short ∙
         ap Ok (sym (rw (seen_field f p) at (shows_set question_left success.well widths (shows a) enough)))
 
     pub all_lamps : (numbers_of (lamp_of l f p (outcome l t s).table (number_of (outcome l t s).answer))).refusal ≡ 0

@@ -3,18 +3,15 @@
 use Rattle.std.specs.Prelude.{ℕ, ◌≤◌, ◌<◌, ◌^◌, ◌≡◌, List, length, Result, Ok, Err}
 use Rattle.refusals.specs.declared.Refusal.{Refusal}
 use Rattle.refusals.specs.declared.Refused.{Refused}
-use Rattle.std.proofs.Common.{arith, sym, ap₂, ◌∙◌}
+use Rattle.std.proofs.Common.{arith, ap₂, ◌∙◌}
 use Rattle.std.proofs.Math.Path.{ap}
 use Rattle.refusals.specs.laws.Above.{number_above}
 use Rattle.fields.specs.Ethernet.{max_frame}
 use Rattle.fields.specs.Bytes.{Bytes}
-use Rattle.lists.specs.Filters.{filters_of}
-use Rattle.machine.specs.Box.{states_of}
 use Rattle.builder.specs.Outcome as O
 use Rattle.matcher.specs.declared.Walk.{Walk}
 use Rattle.matcher.specs.Walk as W
 use Rattle.labels.specs.Labels.{Legal}
-use Rattle.demands.specs.laws.Builds.{build_success}
 use Rattle.demands.specs.Settled.{walked}
 use Rattle.demands.specs.laws.Settled.{exact, all_done, all_matches, open_so, sure_so, out_so, sure_kept, out_kept, none_left, asked_few}
 use Rattle.demands.specs.Whole.{Told, Whole}
@@ -23,6 +20,10 @@ module _ (l t s f : List ℕ) (p a : ℕ) where
   abbrev answer : Result ℕ (Refused ℕ)
   answer = (O.outcome l t s).answer
 
+  abbrev refused_in : Refused ℕ → Result ℕ (Refused ℕ) → Refused ℕ
+  refused_in r (Ok n) = r
+  refused_in r (Err q) = q
+
   -- No list that was built is refused.
   unbuilt_some : (r : Refused ℕ) → Err r ≡ answer → O.refusal_of answer ≡ 0 → ⊥
   unbuilt_some r e z = omega (arith, number_above r.refusal, ap O.refusal_of e)
@@ -30,7 +31,7 @@ module _ (l t s f : List ℕ) (p a : ℕ) where
   pub whole_refused : (r : Refused ℕ) → Err r ≡ answer → Whole l t s f p a (Err r.refusal)
   whole_refused r e =
       let some = unbuilt_some r e in
-      record { unbuilt = λ q g. ap (λ (x : Refused ℕ). Err x.refusal) (err_one r q (e ∙ g)); walks = λ z. absurd (some z); demands = λ z _. absurd (some z) }
+      record { unbuilt = λ q g. ap (λ (x : Result ℕ (Refused ℕ)). Err (refused_in r x).refusal) (e ∙ g); walks = λ z. absurd (some z); demands = λ z _. absurd (some z) }
 
   -- A walk over what was built; the frame's bytes and the port are bytes.
   module _ (n : ℕ) (t' : List ℕ) (x : Result Walk Refusal) (e : Ok n ≡ answer) (same : t' ≡ (O.outcome l t s).table)
