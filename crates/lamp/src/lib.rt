@@ -105,11 +105,12 @@ fn light_accepted(
     requires { listed list.now ≡ Ok counts }
     ensures { result ≡ lamp_from (filters_of list.now) table.now.words.now table.now.states (reading_at header.now.present header.now.values) (tests_in (filters_of list.now)) 0 0 (start (filters_of list.now)) }
 {
+    // First of all, since the compiler makes words zero twice whose place in the code is further down.
+    let mut state = [0u32; SLOT_WORDS];
+    let mut room = [0u32; SLOT_WORDS];
     let mut ranks = [sets::EMPTY; MAX_FILTERS];
     lists::rank_sets(list, &mut ranks);
     let width = FILTER_WORDS * counts.filters as usize;
-    let mut state = [0u32; SLOT_WORDS];
-    let mut room = [0u32; SLOT_WORDS];
     lamp_from(
         list,
         &ranks,
