@@ -183,7 +183,9 @@ fn agrees(table: &[u32], n: usize, fresh: Fresh) -> bool
     Fresh::of(record_of(table, n)) == fresh
 }
 
-// The first record from a place on, before an end, that has the question and the sets of a fresh one; none where no record has.
+// The first record from a place on, before an end, that has the question and the sets of a fresh one; none where no record has. A call
+// of its own: a copy in the caller would count the caller's own places with each record.
+#[inline(never)]
 pub fn agreeing(table: &[u32], from: usize, end: usize, fresh: Fresh) -> Option<usize>
     requires from_le_end { from ≤ end }
     requires end_in_bounds { record_words * end ≤ length table.now }
