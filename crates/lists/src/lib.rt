@@ -243,21 +243,25 @@ pub fn check(list: &[u32]) -> Result<Counts, Refused<u32>>
 {
     let mut filters: u32 = 0;
     let mut tests: u32 = 0;
-    for words in Filters(list) {
+    // Not over `Filters`, which works out what follows before the filter is known to be whole: an eighth more instructions, measured.
+    let mut rest = list;
+    while 0 < rest.len() {
         if filters == FILTERS {
             return Err(Refused {
                 refusal: Refusal::ManyFilters,
                 place: filters,
             });
         }
-        if let Err(refusal) = check_filter(words) {
+        if let Err(refusal) = check_filter(rest) {
             return Err(Refused {
                 refusal,
                 place: filters,
             });
         }
-        tests += count_at(words, 0);
+        let count = count_at(rest, 0);
+        tests += count;
         filters += 1;
+        rest = &rest[filter_words(count)..];
     }
     Ok(Counts { filters, tests })
 }
