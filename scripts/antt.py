@@ -23,12 +23,12 @@ STATEMENTS = (
 )
 TOOLCHAIN = ("Prim", "mathlib", "native", "lib", "borrow", "mir", "denote", "contract", "Rattle.std")
 NAME = r'[^\s(){}.;,@"«»]+'
-USE = re.compile(r"^((?:unfoldable |pub |ghost )*)use ([^\s{;]+?)(?:(?:\.|::)\{([^}]*)\}| as ([^\s;]+))?;?$", re.M)
+USE = re.compile(r"^ *((?:unfoldable |pub |ghost )*)use ([^\s{;]+?)(?:(?:\.|::)\{([^}]*)\}| as ([^\s;]+))?;?$", re.M)
 HEAD = re.compile(rf"((?:unfoldable |abbrev |axiom |pub )*)(record |data |ruleset )?({NAME})(?: \{{[^}}]*\}})?( :)?")
 LABEL = re.compile(rf"(?:^ *(?:pub )?|(?<=[{{;,]) *){NAME} (?=[:=](?:\s|$))|(?<=[({{])(?:{NAME} )+(?=:\s)", re.M)
 UNREAD = re.compile(r"(unfoldable |abbrev )*mutual\b")
 IMPL = re.compile(r"impl(?:<[^{]*?>)? (?:([\w:]+(?:<[^{]*?>)?) for )?([A-Za-z]\w*)[^{]*\{$")
-PROGRAM = re.compile(r'(pub )?(?:extern "C" )?(enum|struct|type|const|fn) (\w+)')
+PROGRAM = re.compile(r'(pub )?(?:pub\(crate\) )?(?:extern "C" )?(enum|struct|type|const|fn) (\w+)')
 
 
 def words(text):
@@ -149,7 +149,7 @@ class File:
                 item, owner, block = None, "", None
             elif block:
                 block.last = n if line.strip() else block.last
-                ghosts = ghosts and not re.match(r" +(#|fn |unsafe |type )", line)
+                ghosts = ghosts and not re.match(r" +(#|fn |unsafe )", line)
                 block.stated = block.last if ghosts else block.stated
             else:
                 item = self.read_line(n, line[4:] if owner else line, owner, item)
