@@ -147,6 +147,14 @@ impl Fresh {
         }
     }
 
+    // Whether a record has this question and these sets, whatever its next numbers.
+    #[tactic(auto, using(crate::proofs::laws::Agreeing::agree_parts))]
+    fn agrees(self, words: &Record) -> bool
+        ensures { result ≡ agree words.now (fresh_by self) }
+    {
+        Fresh::of(words) == self
+    }
+
     // The words of the record, with the next numbers 0.
     #[tactic(auto, unfolding(crate::specs::inner::Records::fresh_by, crate::specs::inner::Records::fresh_record, crate::specs::Tables::record_with, crate::specs::Tables::as_words))]
     fn words(self) -> Record
@@ -174,15 +182,6 @@ pub fn write_fresh(words: &mut [u32], fresh: Fresh)
     words[..RECORD_WORDS].copy_from_slice(&fresh.words());
 }
 
-// Whether a record of a table has the question and the sets of a fresh one, whatever its next numbers.
-#[tactic(auto, using(crate::proofs::laws::Agreeing::agree_parts))]
-fn agrees(table: &[u32], n: usize, fresh: Fresh) -> bool
-    requires { record_words * (n + 1) ≤ length table.now }
-    ensures { result ≡ agree (record_at table.now n) (fresh_by fresh) }
-{
-    Fresh::of(record_of(table, n)) == fresh
-}
-
 // The first record from a place on, before an end, that has the question and the sets of a fresh one; none where no record has. A call
 // of its own: a copy in the caller would count the caller's own places with each record.
 #[inline(never)]
@@ -191,5 +190,5 @@ pub fn agreeing(table: &[u32], from: usize, end: usize, fresh: Fresh) -> Option<
     requires end_in_bounds { record_words * end ≤ length table.now }
     ensures { result ≡ agreeing_from (end - from) from table.now (fresh_by fresh) }
 {
-    (from..end).find(|n| agrees(table, *n, fresh))
+    (from..end).find(|n| fresh.agrees(record_of(table, *n)))
 }
