@@ -9,8 +9,8 @@ use Rattle.lists.specs.Words.{test_list}
 use Rattle.lists.specs.declared.TestWords.{TestWords}
 use Rattle.tables.specs.inner.Records.{fresh_by}
 use Rattle.tables.specs.declared.Fresh.{Fresh}
-use Rattle.slots.specs.inner.Slots.{question_in, step_question, step_words}
-use Rattle.slots.specs.inner.Steps.{filters_in}
+use Rattle.slots.specs.inner.Slots.{step_question, step_words}
+use Rattle.slots.specs.Asking.{question_in, filters_in}
 use Rattle.automaton.specs.Machines.{meets, place_of}
 use Rattle.automaton.specs.inner.Placing.{fresh_of}
 use Rattle.automaton.proofs.laws.Places.{place_below}

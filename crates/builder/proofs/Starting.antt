@@ -5,7 +5,7 @@ use Rattle.std.proofs.Common.{arith, sym, subst, length-take-le}
 use Rattle.lists.specs.Filters.{max_filters}
 use Rattle.lists.specs.laws.Accepted.{accepted_count}
 use Rattle.slots.specs.Words.{filter_slot, slot_words}
-use Rattle.slots.specs.inner.Steps.{filters_in}
+use Rattle.slots.specs.Asking.{filters_in}
 use Rattle.builder.specs.inner.Started.{Startable}
 
 abbrev pub room : ℕ → List ℕ

@@ -13,7 +13,8 @@ use Rattle.lists.specs.Words.{test_list}
 use Rattle.tables.specs.declared.Fresh.{Fresh}
 use Rattle.tables.proofs.laws.Layout.{record_long}
 use Rattle.slots.specs.Words.{filter_slot, slot_words}
-use Rattle.slots.specs.inner.Slots.{question_in, sure_set_in, out_set_in}
+use Rattle.slots.specs.inner.Slots.{sure_set_in, out_set_in}
+use Rattle.slots.specs.Asking.{question_in}
 use Rattle.slots.specs.laws.Written.{length_question}
 use Rattle.machine.specs.inner.Slots.{slots_in}
 use Rattle.automaton.specs.inner.Placing.{fresh_of, stored}

@@ -1,7 +1,7 @@
 // The state that an outcome leads to is looked for among those met, and stored where it is new.
 ghost use Rattle.std.specs.Prelude.{◌≡◌};
 ghost use Rattle.slots.specs.inner.Slots.{step_words};
-ghost use Rattle.slots.specs.inner.Steps.{filters_in};
+ghost use Rattle.slots.specs.Asking.{filters_in};
 ghost use Rattle.builder.specs.inner.Memory.{slot_at};
 ghost use Rattle.builder.specs.inner.Promises.{Stepping};
 

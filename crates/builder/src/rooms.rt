@@ -3,7 +3,7 @@ ghost use Rattle.std.specs.Prelude.{◌≡◌, ◌*◌, ◌≤◌, length};
 ghost use Rattle.lists.specs.Filters.{max_filters};
 ghost use Rattle.tables.specs.Tables.{record_words, max_slots};
 ghost use Rattle.slots.specs.Words.{filter_slot, slot_words};
-ghost use Rattle.slots.specs.inner.Steps.{filters_in};
+ghost use Rattle.slots.specs.Asking.{filters_in};
 
 use lists::MAX_FILTERS;
 use sets::Set;

@@ -1,7 +1,7 @@
 // A capture (a classic libpcap file) is replayed through a list, part after part: where the parts end does not matter (change request P10).
 #![tactic(auto)]
 
-ghost use Rattle.std.specs.Prelude.{◌≡◌, cond, ◌++◌, ℕ, ◌+◌, ◌-◌, ◌≤◌, ◌<◌, List, length, take, drop, Ok};
+ghost use Rattle.std.specs.Prelude.{◌≡◌, ◌++◌, ℕ, ◌+◌, ◌≤◌, ◌<◌, List, length, take, drop, Ok};
 ghost use Rattle.lists.specs.Filters.{max_filters, Filter, filters_of};
 ghost use Rattle.lists.specs.Refusals.{listed};
 ghost use Rattle.text.specs.Text.{words_of};

@@ -2,7 +2,7 @@
 #![tactic(auto)]
 
 ghost use Rattle.std.specs.Prelude.{◌≡◌, ◌<◌, length, get_or};
-ghost use Rattle.gateway.specs.Gateway.{tally_count, lowest_of, all_verdicts, verdicts_fit, judgement_of, counted_at, judged, emptied};
+ghost use Rattle.gateway.specs.Gateway.{lowest_of, all_verdicts, verdicts_fit, judgement_of, counted_at, judged, emptied};
 
 use lists::{MAX_FILTERS, MAX_TESTS};
 use matcher::Walk;

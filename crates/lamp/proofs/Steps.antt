@@ -38,8 +38,8 @@ use Rattle.states.proofs.laws.Standings.{length_start, length_step}
 use Rattle.states.proofs.laws.Well.{well_start, well_step}
 use Rattle.slots.specs.Words.{question_words}
 use Rattle.slots.specs.inner.Words.{written}
-use Rattle.slots.specs.inner.Slots.{held_set, question_in, step_question}
-use Rattle.slots.specs.inner.Steps.{filters_in}
+use Rattle.slots.specs.inner.Slots.{held_set, step_question}
+use Rattle.slots.specs.Asking.{question_in, filters_in}
 use Rattle.slots.specs.laws.Fitting.{fits_slot, fits_start, fits_step}
 use Rattle.slots.specs.laws.Written.{question_written, held_written, by_written}
 use Rattle.tables.specs.Tables.{next_at}

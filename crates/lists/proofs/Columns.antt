@@ -11,7 +11,8 @@ use Rattle.lists.specs.declared.Rank.{Rank}
 use Rattle.lists.specs.Filters.{Filter, max_filters, filter_words, filter_of, filters_from, filters_of}
 use Rattle.lists.specs.laws.Walking.{filters_step, filters_none}
 use Rattle.lists.specs.Ranks.{above, rank_set, rank_sets}
-use Rattle.lists.specs.inner.Columns.{rank_of, above_by, rank_set_by, Heads}
+use Rattle.lists.specs.inner.Columns.{rank_set_by}
+use Rattle.lists.specs.Columns.{rank_of, above_by, Heads}
 use Rattle.lists.specs.laws.Columns.{above_agrees}
 
 -- What is behind the filter that the words begin with.

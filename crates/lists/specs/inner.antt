@@ -1,4 +1,3 @@
 pub mod Well
 pub mod Columns
 pub mod Moved
-pub mod Walk

@@ -7,9 +7,10 @@ ghost use Rattle.lists.specs.Filters.{max_filters, head_words, test_words, count
 ghost use Rattle.lists.specs.Words.{words_of};
 ghost use Rattle.lists.specs.Refusals.{masked, test_fault, tests_fault, filter_fault, listed};
 ghost use Rattle.lists.specs.Ranks.{rank_sets};
-ghost use Rattle.lists.specs.inner.Columns.{rank_of, no_rank, Heads, above_by, rank_set_by};
+ghost use Rattle.lists.specs.inner.Columns.{rank_set_by};
+ghost use Rattle.lists.specs.Columns.{rank_of, no_rank, Heads, above_by};
 ghost use Rattle.std.specs.Iterator.{at_most};
-ghost use Rattle.lists.specs.inner.Walk.{GivesFilter};
+ghost use Rattle.lists.specs.Walk.{GivesFilter};
 
 use refusals::{Refusal, Refused};
 use residue::Test;
@@ -299,7 +300,7 @@ fn rank_at(ranks: &[Rank], i: usize) -> Rank
 }
 
 // Whether filter j ranks above filter i: never in group 0, where each is on its own.
-#[tactic(auto, unfolding(crate::specs::inner::Columns::above_by, crate::specs::Ranks::outranks))]
+#[tactic(auto, unfolding(crate::specs::Columns::above_by, crate::specs::Ranks::outranks))]
 pub fn ranks_above(ranks: &[Rank], j: usize, i: usize) -> bool
     ensures { result ≡ above_by ranks.now j i }
 {

@@ -80,9 +80,6 @@ module _ {t : List ℕ} {f x n next : ℕ} (small : f < field_count) (l : Link t
       rw (way, lt-ltb next m inside, mark_stays t v n refl reads b) at (at_question t m v b n a q h link_sound link_asks)
 
 module _ {t : List ℕ} {m f x l s : ℕ} where
-  pub chained_none : s < m → Chained t m f x l s l s
-  chained_none h = record { within = omega arith; inside = h; same = λ v e a h' b. refl }
-
   -- A further link, where so many more would lead to no record beyond the states.
   pub chained_more :
       {q n : ℕ} (stop : ℕ) →

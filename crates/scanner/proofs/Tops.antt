@@ -12,7 +12,7 @@ use Rattle.sets.specs.laws.Members.{member_tally, get_or_tally, tally_ext, some_
 use Rattle.lists.specs.declared.Rank.{Rank}
 use Rattle.lists.specs.Filters.{Filter}
 use Rattle.lists.specs.Ranks.{above, fires, matches, match_set}
-use Rattle.lists.specs.inner.Columns.{above_by, Heads}
+use Rattle.lists.specs.Columns.{above_by, Heads}
 use Rattle.lists.specs.laws.Columns.{above_agrees}
 use Rattle.lists.specs.laws.Ranking.{above_irreflexive}
 use Rattle.lists.specs.laws.Topmost as T

@@ -11,7 +11,7 @@ ghost use Rattle.lists.specs.declared.Counts.{Counts};
 ghost use Rattle.lists.specs.Filters.{max_filters, filter_words, test_of, filter_of, filters_of};
 ghost use Rattle.lists.specs.Refusals.{listed};
 ghost use Rattle.lists.specs.Ranks.{all_hold, fires, match_set};
-ghost use Rattle.lists.specs.inner.Columns.{above_by};
+ghost use Rattle.lists.specs.Columns.{above_by};
 ghost use Rattle.scanner.specs.Scan.{scanned};
 ghost use Rattle.scanner.specs.inner.Standing.{beaten_by, stands_by, top_set};
 

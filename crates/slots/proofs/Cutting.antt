@@ -24,7 +24,8 @@ use Rattle.std.specs.Simd.{first_chunks}
 use Rattle.slots.proofs.Chunks.{chunk_at}
 use Rattle.states.specs.States.{Standing, out, left, keep, join, cut, cut_standing}
 use Rattle.slots.specs.Words.{filter_slot}
-use Rattle.slots.specs.inner.Words.{out_mark, items_words, out_words, written_filter, read_items, read_filter}
+use Rattle.slots.specs.inner.Words.{items_words, out_words, written_filter, read_items, read_filter}
+use Rattle.slots.specs.Asking.{out_mark}
 use Rattle.slots.specs.inner.Steps.{over, cleared_from, item, left_of, kept_words, kept_at, finished, Kept}
 use Rattle.residue.specs.declared.Test.{Test}
 

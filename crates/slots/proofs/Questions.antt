@@ -5,8 +5,7 @@ use Rattle.std.specs.Simd.{first_chunks}
 use Rattle.std.proofs.Common.{ap, arith}
 use Rattle.std.proofs.lemmas.List.{get_or-take}
 use Rattle.slots.specs.Words.{filter_slot}
-use Rattle.slots.specs.inner.Words.{out_mark}
-use Rattle.slots.specs.inner.Slots.{has_test, four_words, question_in}
+use Rattle.slots.specs.Asking.{out_mark, has_test, four_words, question_in}
 
 -- What is asked where this is the first filter that has a test.
 abbrev pub asked_of : Option (List ℕ) → List ℕ

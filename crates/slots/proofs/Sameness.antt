@@ -3,7 +3,7 @@
 use Rattle.std.specs.Prelude.{ℕ, ◌≡◌, refl, Bool, ◌&&◌, List, [], ◌∷◌, eqb}
 use Rattle.std.proofs.Common.{ap}
 use Rattle.std.specs.Cmp.Lexicographic.{pointwise}
-use Rattle.slots.specs.inner.Slots.{same_words}
+use Rattle.slots.specs.Asking.{same_words}
 
 pub same_pointwise : (a b : List ℕ) → same_words a b ≡ pointwise eqb a b
 unfolding same_words

@@ -16,7 +16,8 @@ use Rattle.sets.specs.Sets.{set_bits, bit, set_of, tally}
 use Rattle.sets.specs.laws.Members.{tally_put, tally_bound}
 use Rattle.slots.specs.Words.{filter_slot}
 use Rattle.slots.specs.inner.Slots.{head_of, out_set_in, sure_set_in}
-use Rattle.slots.specs.inner.Steps.{marked_set, filters_in}
+use Rattle.slots.specs.inner.Steps.{marked_set}
+use Rattle.slots.specs.Asking.{filters_in}
 use Rattle.slots.proofs.Chunks.{chunk_head}
 
 -- ---- marked

@@ -5,7 +5,7 @@ ghost use Rattle.lists.specs.Words.{item_words, test_list};
 ghost use Rattle.states.specs.States.{cut_standing};
 ghost use Rattle.slots.specs.Words.{filter_slot};
 ghost use Rattle.slots.specs.inner.Words.{out_words, written_filter, read_filter};
-ghost use Rattle.slots.specs.inner.Steps.{over, item, left_of, finish, Room, Kept, Cut};
+ghost use Rattle.slots.specs.inner.Steps.{over, item, left_of, Room, Kept, Cut};
 
 use crate::FILTER_WORDS;
 use lists::{TEST_WORDS, TestWords};

@@ -2,16 +2,17 @@
 // A state's slice holds the words of its filters and of nothing else.
 #![tactic(auto)]
 
-ghost use Rattle.std.specs.Prelude.{◌≡◌, ◌≤◌, cond, map, length, find};
+ghost use Rattle.std.specs.Prelude.{◌≡◌, ◌≤◌, map, length, find};
 ghost use Rattle.std.specs.Option.{option_copied};
 ghost use Rattle.std.specs.Simd.{first_chunks};
 ghost use Rattle.lists.specs.Filters.{filters_of, item_of};
 ghost use Rattle.lists.specs.Words.{test_list};
 ghost use Rattle.states.specs.States.{all_left};
 ghost use Rattle.slots.specs.Words.{filter_slot};
-ghost use Rattle.slots.specs.inner.Words.{out_words, written};
-ghost use Rattle.slots.specs.inner.Slots.{held_set, out_set_in, sure_set_in, closed_in, closed_words, question_in, cut_words, step_question, start_words, same_words, has_test};
-ghost use Rattle.slots.specs.inner.Steps.{filters_in, marked_set, StateWords, Both, Starts};
+ghost use Rattle.slots.specs.inner.Words.{written};
+ghost use Rattle.slots.specs.inner.Slots.{held_set, out_set_in, sure_set_in, closed_in, closed_words, cut_words, step_question, start_words};
+ghost use Rattle.slots.specs.Asking.{question_in, same_words, has_test, filters_in};
+ghost use Rattle.slots.specs.inner.Steps.{marked_set, StateWords, Both, Starts};
 
 use filter::OUT;
 use lists::{Filters, HEAD_WORDS, MAX_FILTERS, MAX_TESTS, TEST_WORDS, TestWords};
@@ -124,7 +125,7 @@ pub fn sure_set(state: &[u32], ranks: &[Set], out: Set) -> Set
 }
 
 // Whether a filter has tests left: its first word is then the kind of the first.
-#[tactic(auto, unfolding(crate::specs::inner::Slots::has_test))]
+#[tactic(auto, unfolding(crate::specs::Asking::has_test))]
 fn has_test(filter: &[u32; FILTER_WORDS]) -> bool
     ensures { result ≡ has_test filter.now }
 {

@@ -84,10 +84,6 @@ pub too_long_lem : (t before : List ℕ) → max_text < length t → Reads t bef
 unfolding too_long readable words_of read_of
 too_long_lem t before h = record { answer = rw (lt-ltb _ _ h); words = rw (lt-ltb _ _ h) }
 
-pub begun : (t before : List ℕ) → length t ≤ max_text → max_items ≤ length before → Reading t before before 0 None 0
-begun t before s l =
-    record { short = s; within = omega arith; room = omega arith; long = refl; large = l; kept = refl; rest = refl }
-
 module _ (t before words : List ℕ) (count : ℕ) (place : Option ℕ) (i : ℕ) (r : Reading t before words count place i) where
   scan_next : i < length t → scan place (drop i t) ≡ after (step place (get_or t i 0)) (λ (q : Option ℕ). scan q (drop (i + 1) t))
   unfolding scan

@@ -9,7 +9,7 @@ use Rattle.std.specs.Prelude.{ℕ, ◌≤◌, ◌<◌, ◌≡◌, List, length, 
 use Rattle.residue.specs.declared.Outcome.{Outcome}
 use Rattle.tables.specs.declared.Fresh.{Fresh}
 use Rattle.slots.specs.inner.Slots.{step_words}
-use Rattle.slots.specs.inner.Steps.{filters_in}
+use Rattle.slots.specs.Asking.{filters_in}
 use Rattle.machine.specs.inner.Slots.{slots_in}
 use Rattle.machine.specs.inner.Remaining.{GoodWords}
 use Rattle.automaton.specs.Machines.{Machine}

@@ -4,7 +4,7 @@ use Rattle.std.proofs.Common.{arith, sym, ap, ◌∙◌, Err, get_or}
 use Rattle.fields.specs.Header.{reading_at}
 use Rattle.lists.specs.Filters.{filters_of}
 use Rattle.lists.specs.laws.Accepted.{accepted_count, accepted_well}
-use Rattle.slots.specs.inner.Steps.{filters_in}
+use Rattle.slots.specs.Asking.{filters_in}
 use Rattle.slots.specs.laws.Counting.{whole_state}
 use Rattle.slots.specs.laws.Written.{start_accepted}
 use Rattle.tables.proofs.laws.Layout.{next_within}

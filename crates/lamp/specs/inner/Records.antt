@@ -6,7 +6,7 @@ use Rattle.lists.specs.declared.TestWords.{TestWords}
 use Rattle.lists.specs.Filters.{kind_at, field_at, mask_at, value_at}
 use Rattle.lists.specs.Refusals.{listed, counts}
 use Rattle.slots.specs.Words.{filter_slot}
-use Rattle.slots.specs.inner.Steps.{filters_in}
+use Rattle.slots.specs.Asking.{filters_in}
 
 unfoldable pub record_asks : List ℕ → TestWords → Bool
 record_asks r q =

@@ -7,7 +7,7 @@ use Rattle.std.proofs.Math.ListN.{get_or-map}
 use Rattle.lists.specs.declared.Rank.{Rank}
 use Rattle.lists.specs.Filters.{Filter}
 use Rattle.lists.specs.Ranks.{no_filter, above}
-use Rattle.lists.specs.inner.Columns.{rank_of, no_rank, rank_in, above_by, Heads}
+use Rattle.lists.specs.Columns.{rank_of, no_rank, rank_in, above_by, Heads}
 
 -- A column holds its filters' ranks.
 column_at : (fs : List Filter) (n : ℕ) (rs : List Rank) → Heads fs n rs → (j : ℕ) → j < n → rank_in rs j ≡ rank_of (get_or fs j no_filter)

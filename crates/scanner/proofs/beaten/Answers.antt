@@ -4,7 +4,7 @@ use borrow.Author.Tests.{tests}
 use Rattle.std.proofs.lemmas.Iterator.{YieldsList-from_range}
 use Rattle.std.proofs.lemmas.Iterator.Search.{any_from_yields_List}
 use Rattle.sets.specs.Sets.{member}
-use Rattle.lists.specs.inner.Columns.{above_by}
+use Rattle.lists.specs.Columns.{above_by}
 use Rattle.scanner.specs.inner.Standing.{beaten_by}
 use Rattle.scanner.proofs.Scanning.{some_range}
 use Rattle.scanner.proofs.beaten.Goals as goal

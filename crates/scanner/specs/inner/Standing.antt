@@ -8,7 +8,7 @@ use Rattle.sets.specs.Sets.{set_of, tally, member, some}
 use Rattle.lists.specs.declared.Rank.{Rank}
 use Rattle.lists.specs.Filters.{Filter}
 use Rattle.lists.specs.Ranks.{above}
-use Rattle.lists.specs.inner.Columns.{above_by}
+use Rattle.lists.specs.Columns.{above_by}
 
 unfoldable pub beaten_by : List Rank → ℕ → ℕ → ℕ → Bool
 beaten_by rs n s i = some n (λ j. above_by rs j i && member j s)

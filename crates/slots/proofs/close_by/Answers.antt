@@ -2,7 +2,7 @@
 -- Assumes nothing.
 use Rattle.std.proofs.Common.{◌*◌, arith, drop}
 use Rattle.slots.specs.Words.{filter_slot}
-use Rattle.slots.specs.inner.Steps.{filters_in}
+use Rattle.slots.specs.Asking.{filters_in}
 use Rattle.slots.proofs.Parts.{close_out, close_stays, closed_none, done}
 use Rattle.slots.proofs.close_by.Goals as goal
 use Rattle.slots.proofs.close_by.Goals.{then-ranks-i-ne0, else-ranks-i-ne0}

@@ -1,7 +1,7 @@
 -- `slots::close_by` meets its contract. The loop's invariant: the words up to filter i, then the rest closed, are the whole.
 -- Assumes nothing.
 use Rattle.slots.specs.inner.Slots.{closed_in}
-use Rattle.slots.specs.inner.Steps.{filters_in}
+use Rattle.slots.specs.Asking.{filters_in}
 use Rattle.slots.specs.Words.{filter_slot}
 use lib.ListN.{take, drop}
 use mathlib.Core.List.{◌++◌}

@@ -2,7 +2,7 @@
 -- Assumes nothing.
 use Rattle.std.proofs.Common.{◌*◌, arith, drop}
 use Rattle.slots.specs.Words.{filter_slot}
-use Rattle.slots.specs.inner.Steps.{filters_in}
+use Rattle.slots.specs.Asking.{filters_in}
 use Rattle.slots.proofs.Parts.{cut_turn, cut_none, done}
 use Rattle.slots.proofs.cut_all.Goals as goal
 

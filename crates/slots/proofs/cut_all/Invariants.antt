@@ -1,7 +1,7 @@
 -- `slots::cut_all` meets its contract. The loop's invariant: what is written, then what the rest is cut to, is the whole.
 -- Assumes nothing.
 use Rattle.slots.specs.inner.Slots.{cut_words}
-use Rattle.slots.specs.inner.Steps.{filters_in}
+use Rattle.slots.specs.Asking.{filters_in}
 use Rattle.slots.specs.Words.{filter_slot}
 use lib.ListN.{take, drop}
 use mathlib.Core.List.{◌++◌}

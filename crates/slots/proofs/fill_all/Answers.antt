@@ -5,7 +5,7 @@ use Rattle.lists.specs.Filters.{test_words, count_word}
 use Rattle.lists.specs.laws.Faults.{NoFault}
 use Rattle.lists.specs.laws.Walking.{rest_start, rest_sound, rest_below, rest_next}
 use Rattle.slots.specs.Words.{filter_slot}
-use Rattle.slots.specs.inner.Steps.{filters_in}
+use Rattle.slots.specs.Asking.{filters_in}
 use Rattle.slots.proofs.Parts.{done}
 use Rattle.slots.proofs.Starting.{fill_turn, fill_end}
 use Rattle.slots.proofs.fill_all.Goals as goal

@@ -2,7 +2,7 @@
 -- Assumes nothing.
 use Rattle.slots.specs.Words.{filter_slot}
 use Rattle.slots.specs.inner.Words.{written}
-use Rattle.slots.specs.inner.Steps.{filters_in}
+use Rattle.slots.specs.Asking.{filters_in}
 use Rattle.states.specs.States.{all_left}
 use Rattle.lists.specs.Filters.{filters_of}
 use Rattle.lists.specs.laws.Walking.{Rest}

@@ -3,7 +3,7 @@
 use Rattle.std.proofs.Common.{ap, sym, ◌∙◌}
 use Rattle.std.specs.Option.{option_copied}
 use Rattle.lists.specs.Words.{test_list, words_of}
-use Rattle.slots.specs.inner.Slots.{four_words}
+use Rattle.slots.specs.Asking.{four_words}
 use Rattle.slots.proofs.Questions.{asked_of, question_found}
 use Rattle.slots.proofs.question_of.Goals as goal
 

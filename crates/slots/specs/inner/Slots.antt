@@ -3,23 +3,22 @@
 --   held_set n w, out_set_in n w   the filters that are held, that are out
 --   sure_set_in n ranks w    held, and every filter that ranks above is out
 --   closed_words n ranks w  each filter that ranks below a held one made out
---   question_in n w         the four words of the first remaining test of the first filter that has any; zeros where none has
 --   cut_words n f k w       what the fact k about field f leaves of each filter
 --   step_question n ranks o q w   the slot after the question q came to o
 --   step_words n ranks o w  the slot after the question of w came to o
 --   start_words n ranks ws  the start of the list ws
---   same_words a b          the same words
-use Rattle.std.specs.Prelude.{ℕ, zero, suc, ◌+◌, ◌*◌, Bool, true, false, cond, not, ◌&&◌, List, [], ◌∷◌, ◌++◌, map, eqb, get_or, take, drop, Option}
+use Rattle.std.specs.Prelude.{ℕ, zero, suc, ◌+◌, ◌*◌, Bool, cond, not, ◌&&◌, List, [], ◌++◌, map, eqb, get_or, take, drop, Option}
 use Rattle.std.specs.Int.Bits.{bit_and}
 use Rattle.residue.specs.Facts.{fact_of}
 use Rattle.residue.specs.Residues.{outside}
 use Rattle.residue.specs.declared.Outcome.{Outcome}
 use Rattle.fields.specs.Widths.{full}
 use Rattle.sets.specs.Sets.{set_of, tally}
-use Rattle.lists.specs.Filters.{Item, kind_at, field_at, mask_at, value_at, item_of, filters_of}
+use Rattle.lists.specs.Filters.{Item, item_of, filters_of}
 use Rattle.states.specs.States.{cut_standing, all_left}
 use Rattle.slots.specs.Words.{filter_slot}
-use Rattle.slots.specs.inner.Words.{out_mark, out_words, written_filter, written, read_filter}
+use Rattle.slots.specs.inner.Words.{out_words, written_filter, written, read_filter}
+use Rattle.slots.specs.Asking.{out_mark, question_in}
 use Rattle.residue.specs.declared.Test.{Test}
 
 unfoldable pub head_of : List ℕ → ℕ → ℕ
@@ -43,17 +42,6 @@ closed_in (suc n) ranks held i w =
 unfoldable pub closed_words : ℕ → List ℕ → List ℕ → List ℕ
 closed_words n ranks w = closed_in n ranks (held_set n w) 0 w
 
--- A filter whose first word is neither 0 nor the mark has a test to ask.
-unfoldable pub has_test : List ℕ → Bool
-has_test w = not (eqb (get_or w 0 0) 0) && not (eqb (get_or w 0 0) out_mark)
-
-unfoldable pub four_words : List ℕ → List ℕ
-four_words w = get_or w kind_at 0 ∷ get_or w field_at 0 ∷ get_or w mask_at 0 ∷ get_or w value_at 0 ∷ []
-
-unfoldable pub question_in : ℕ → List ℕ → List ℕ
-question_in zero w = 0 ∷ 0 ∷ 0 ∷ 0 ∷ []
-question_in (suc n) w = cond (has_test w) (four_words w) (question_in n (drop filter_slot w))
-
 unfoldable pub asks_in : ℕ → List ℕ → Bool
 asks_in n w = not (eqb (get_or (question_in n w) 0 0) 0)
 
@@ -69,9 +57,3 @@ step_words n ranks o w = step_question n ranks o (item_of (question_in n w)) w
 
 unfoldable pub start_words : ℕ → List ℕ → List ℕ → List ℕ
 start_words n ranks ws = closed_words n ranks (written (map all_left (filters_of ws)))
-
-unfoldable pub same_words : List ℕ → List ℕ → Bool
-same_words [] [] = true
-same_words [] (b ∷ bs) = false
-same_words (a ∷ xs) [] = false
-same_words (a ∷ xs) (b ∷ bs) = eqb a b && same_words xs bs

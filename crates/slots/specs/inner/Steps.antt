@@ -5,9 +5,8 @@
 --   kept_words, kept_at   the words, and the place behind the last kept test, after one more test; none where the filter is out
 --   finish e d          the filter whose kept tests end at place e, zeros behind; out where e is none
 --   finished e d x      d up to place e, then the tests of x, zeros behind
---   filters_in w        how many filters the words w are of
 --   marked_set n m w    the filters whose first word is m
-use Rattle.std.specs.Prelude.{ℕ, ◌+◌, ◌*◌, ◌-◌, ◌/◌, ◌≤◌, ◌≡◌, cond, List, ◌++◌, eqb, length, take, drop, replicate, Option, None, Some, IfSome, Ok}
+use Rattle.std.specs.Prelude.{ℕ, ◌+◌, ◌*◌, ◌-◌, ◌≤◌, ◌≡◌, cond, List, ◌++◌, eqb, length, take, drop, replicate, Option, None, Some, IfSome, Ok}
 use Rattle.residue.specs.Residues.{residue_by}
 use Rattle.residue.specs.declared.Test.{Test}
 use Rattle.residue.specs.declared.Residue.{Residue}
@@ -20,6 +19,7 @@ use Rattle.states.specs.States.{Standing, out, left, cut_standing}
 use Rattle.sets.specs.Sets.{set_of, tally}
 use Rattle.slots.specs.inner.Slots.{head_of}
 use Rattle.slots.specs.Words.{filter_slot}
+use Rattle.slots.specs.Asking.{filters_in}
 use Rattle.slots.specs.inner.Words.{items_words, out_words, written_filter, read_filter}
 
 abbrev pub over : ℕ → List ℕ → List ℕ → List ℕ
@@ -65,9 +65,6 @@ pub record Kept (e f : ℕ) (r : Residue) (d d' : List ℕ) (e' : Option ℕ) : 
 pub record Cut (n : ℕ) (k : Option Test) (src d' : List ℕ) (e : Option ℕ) : Type 0 where
   pub words : finish e d' ≡ written_filter (cut_standing n k (read_filter src))
   pub within : IfSome e (λ x. x ≤ filter_slot)
-
-abbrev pub filters_in : List ℕ → ℕ
-filters_in w = length w / filter_slot
 
 unfoldable pub marked_set : ℕ → ℕ → List ℕ → ℕ
 marked_set n m w = set_of (tally n (λ i. eqb (head_of w i) m))

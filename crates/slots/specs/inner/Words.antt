@@ -1,19 +1,15 @@
 -- A state as the words of one slot: its remaining tests first, four words each, zeros behind; the mark 5 first where a filter is out.
---   out_mark           the first word of a filter that is out
 --   items_words ts     the words of tests
 --   written_filter x   the words of a standing
 --   written s         the words of a state
 --   read_filter c      the standing that the words of a filter say, whatever they are
 --   read_state n w     the standings that the first n filters' words say
-use Rattle.std.specs.Prelude.{ℕ, zero, suc, ◌+◌, ◌*◌, ◌-◌, cond, List, [], ◌∷◌, ◌++◌, eqb, length, get_or, take, drop, replicate}
-use Rattle.lists.specs.Filters.{Item, max_tests, test_words, kind_at_least, item_of}
+use Rattle.std.specs.Prelude.{ℕ, zero, suc, ◌*◌, ◌-◌, cond, List, [], ◌∷◌, ◌++◌, eqb, length, get_or, take, drop, replicate}
+use Rattle.lists.specs.Filters.{Item, max_tests, test_words, item_of}
 use Rattle.lists.specs.Words.{item_words}
 use Rattle.states.specs.States.{Standing, out, left, State}
 use Rattle.slots.specs.Words.{filter_slot}
-
--- No kind: the first word of a filter that is out. The first word of a held filter is 0.
-abbrev pub out_mark : ℕ
-out_mark = kind_at_least + 1
+use Rattle.slots.specs.Asking.{out_mark}
 
 unfoldable pub items_words : List Item → List ℕ
 items_words [] = []

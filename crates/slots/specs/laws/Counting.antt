@@ -4,7 +4,8 @@ use Rattle.std.specs.Prelude.{ℕ, ◌*◌, ◌≤◌, ◌≡◌, List, length}
 use Rattle.std.proofs.Common.{arith}
 use Rattle.lists.specs.Filters.{max_filters}
 use Rattle.slots.specs.Words.{filter_slot}
-use Rattle.slots.specs.inner.Steps.{filters_in, StateWords}
+use Rattle.slots.specs.inner.Steps.{StateWords}
+use Rattle.slots.specs.Asking.{filters_in}
 
 pub filters_count : (n : ℕ) (w : List ℕ) → length w ≡ filter_slot * n → filters_in w ≡ n
 filters_count n w l = omega arith

@@ -11,7 +11,8 @@ use Rattle.lists.specs.laws.Items.{kind_some, item_round}
 use Rattle.states.specs.States.{Standing, out, left, State, is_held, is_out}
 use Rattle.states.specs.inner.Remaining.{remaining_in}
 use Rattle.slots.specs.Words.{filter_slot}
-use Rattle.slots.specs.inner.Words.{out_mark, items_words, out_words, written_filter, written, read_items, read_filter, read_state}
+use Rattle.slots.specs.inner.Words.{items_words, out_words, written_filter, written, read_items, read_filter, read_state}
+use Rattle.slots.specs.Asking.{out_mark}
 use Rattle.slots.specs.laws.Fitting.{fits_standing, fits_slot, fits_le}
 
 -- ---- lengths
