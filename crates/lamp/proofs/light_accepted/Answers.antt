@@ -15,9 +15,6 @@ slot = replicate slot_words 0
 front : (n : ℕ) → n ≤ max_filters → length (take (filter_slot * n) slot) ≡ filter_slot * n
 front n l = length-take-le (filter_slot * n) slot (omega arith)
 
-pub overflow_mul-width : goal.overflow_mul-width
-overflow_mul-width c = omega (arith, (accepted_count _ _ _ c.requires).2)
-
 pub slice_bounds-state-end : goal.slice_bounds-state-end
 slice_bounds-state-end c = omega (arith, (accepted_count _ _ _ c.requires).2)
 
