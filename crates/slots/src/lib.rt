@@ -162,12 +162,22 @@ pub fn step_by(src: &[u32], dst: &mut [u32], ranks: &[Set], asked: TestWords, ou
     close(dst, ranks);
 }
 
-// The same words.
-#[tactic(auto, using(crate::proofs::Sameness::same_pointwise))]
+// The same words, from the last filter back: stored states mostly differ near the end of the list.
 pub fn same(a: &[u32], b: &[u32]) -> bool
+    requires { length a.now ≡ length b.now }
     ensures { result ≡ same_words a.now b.now }
 {
-    a == b
+    let mut end = a.len();
+    // Written by index: of the parts that rchunks lends a proof knows the run alone.
+    while 0 < end {
+        let at = end.saturating_sub(FILTER_WORDS);
+        let is_same = &a[at..end] == &b[at..end];
+        if !is_same {
+            return false;
+        }
+        end = at;
+    }
+    true
 }
 
 // Every filter of an accepted list with all its tests.
