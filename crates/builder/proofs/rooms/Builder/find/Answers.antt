@@ -1,7 +1,9 @@
 -- None of the first states is the one sought, neither those compared nor those whose records do not agree.
 -- Assumes nothing.
-use Rattle.std.proofs.Common.{arith, sym, ◌∙◌}
-use Rattle.builder.proofs.Finding.{unmet_none, unmet_more, unmet_next, unmet_all, found_at, found_nothing}
+use Rattle.std.proofs.Common.{arith, sym, ◌∙◌, ◌≡◌, ◌*◌, length}
+use Rattle.slots.specs.Words.{filter_slot}
+use Rattle.builder.specs.inner.Builders.{filters, state_at}
+use Rattle.builder.proofs.Finding.{unmet_none, unmet_more, unmet_next, unmet_all, found_at, found_nothing, slot_long}
 use Rattle.builder.proofs.rooms.Builder.find.Goals as goal
 
 pub loop-next-init : goal.loop-next-init
@@ -9,6 +11,13 @@ loop-next-init c = record { within = omega arith; unmet = unmet_none _ _ _ }
 
 pub slot-requires : goal.slot-requires
 slot-requires c = omega (arith, unmet_next c.requires c.loop-next.from _ c.loop-next.invariant.unmet (omega arith) c.in-Some.ensures)
+
+pub same-is_same-requires : goal.same-is_same-requires
+same-is_same-requires c =
+    let b = c.args.self.now in
+    let below = (unmet_next c.requires c.loop-next.from _ c.loop-next.invariant.unmet (omega arith) c.in-Some.ensures).1 in
+    let long : length (state_at b c.in-Some.next) ≡ filter_slot * filters b = slot_long (filters b) b.scratch.now c.in-Some.next b.filters (omega (arith, b.scratched)) in
+    rw c.slot.ensures (long ∙ sym b.whole)
 
 pub overflow_add-from : goal.overflow_add-from
 overflow_add-from c = omega (arith, unmet_next c.requires c.loop-next.from _ c.loop-next.invariant.unmet (omega arith) c.in-Some.ensures)
