@@ -23,8 +23,8 @@ use Rattle.tables.specs.inner.Records.{agree, fresh_by, record_at, agreeing_from
 use Rattle.tables.proofs.laws.Agreeing.{agreeing_first, agreeing_none}
 use Rattle.tables.specs.declared.Fresh.{Fresh}
 use Rattle.slots.specs.Words.{filter_slot, slot_words}
-use Rattle.slots.specs.Asking.{filters_in, same_words, question_in}
-use Rattle.slots.specs.inner.Slots.{asks_in}
+use Rattle.slots.specs.Asking.{filters_in, question_in}
+use Rattle.slots.specs.inner.Slots.{asks_in, same_words}
 use Rattle.slots.specs.laws.Written.{same_words_eq}
 use Rattle.machine.specs.inner.Slots.{slots_in}
 use Rattle.automaton.specs.Machines.{Machine, meets, place_of}

@@ -4,7 +4,7 @@ use Rattle.std.specs.Prelude.{ℕ, ◌+◌, ◌-◌, ◌≤◌, ◌≡◌, refl,
 use Rattle.std.proofs.Common.{arith, sym, ap, ◌∙◌}
 use Rattle.std.specs.Cmp.Lexicographic.{pointwise}
 use lib.Seq.{length-take-le, take_all, take-add}
-use Rattle.slots.specs.Asking.{same_words}
+use Rattle.slots.specs.inner.Slots.{same_words}
 
 -- The library compares slices so.
 pub same_pointwise : (a b : List ℕ) → same_words a b ≡ pointwise eqb a b

@@ -1,11 +1,10 @@
--- The words of a slot: how many filters they are of, what they ask, and when they are the same.
+-- The words of a slot: how many filters they are of, and what they ask.
 --   filters_in w       how many filters the words w are of
 --   out_mark           the first word of a filter that is out
 --   has_test w         the filter of the words w has a test to ask
 --   four_words w       the words of its first test
 --   question_in n w    the four words of the first remaining test of the first filter that has any; zeros where none has
---   same_words a b     the same words
-use Rattle.std.specs.Prelude.{ℕ, zero, suc, ◌+◌, ◌/◌, Bool, true, false, cond, not, ◌&&◌, List, [], ◌∷◌, eqb, length, get_or, drop}
+use Rattle.std.specs.Prelude.{ℕ, zero, suc, ◌+◌, ◌/◌, Bool, cond, not, ◌&&◌, List, [], ◌∷◌, eqb, length, get_or, drop}
 use Rattle.lists.specs.Filters.{kind_at, field_at, mask_at, value_at, kind_at_least}
 use Rattle.slots.specs.Words.{filter_slot}
 
@@ -26,9 +25,3 @@ four_words w = get_or w kind_at 0 ∷ get_or w field_at 0 ∷ get_or w mask_at 0
 unfoldable pub question_in : ℕ → List ℕ → List ℕ
 question_in zero w = 0 ∷ 0 ∷ 0 ∷ 0 ∷ []
 question_in (suc n) w = cond (has_test w) (four_words w) (question_in n (drop filter_slot w))
-
-unfoldable pub same_words : List ℕ → List ℕ → Bool
-same_words [] [] = true
-same_words [] (b ∷ bs) = false
-same_words (a ∷ xs) [] = false
-same_words (a ∷ xs) (b ∷ bs) = eqb a b && same_words xs bs

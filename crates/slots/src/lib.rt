@@ -10,8 +10,8 @@ ghost use Rattle.lists.specs.Words.{test_list};
 ghost use Rattle.states.specs.States.{all_left};
 ghost use Rattle.slots.specs.Words.{filter_slot};
 ghost use Rattle.slots.specs.inner.Words.{written};
-ghost use Rattle.slots.specs.inner.Slots.{held_set, out_set_in, sure_set_in, closed_in, closed_words, cut_words, step_question, start_words};
-ghost use Rattle.slots.specs.Asking.{question_in, same_words, has_test, filters_in};
+ghost use Rattle.slots.specs.inner.Slots.{held_set, out_set_in, sure_set_in, closed_in, closed_words, cut_words, step_question, start_words, same_words};
+ghost use Rattle.slots.specs.Asking.{question_in, has_test, filters_in};
 ghost use Rattle.slots.specs.inner.Steps.{marked_set, StateWords, Both, Starts};
 
 use filter::OUT;

@@ -15,8 +15,8 @@ use Rattle.tables.specs.inner.Records.{agree, fresh_by, record_at}
 use Rattle.tables.specs.declared.Fresh.{Fresh}
 use Rattle.residue.specs.declared.Outcome.{Outcome}
 use Rattle.slots.specs.Words.{filter_slot, slot_words}
-use Rattle.slots.specs.inner.Slots.{asks_in}
-use Rattle.slots.specs.Asking.{same_words, filters_in}
+use Rattle.slots.specs.inner.Slots.{asks_in, same_words}
+use Rattle.slots.specs.Asking.{filters_in}
 use Rattle.machine.specs.inner.Slots.{slots_in}
 use Rattle.machine.specs.inner.Remaining.{GoodWords, tests_left}
 use Rattle.automaton.specs.Machines.{meets, place_of}

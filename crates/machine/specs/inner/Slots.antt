@@ -2,8 +2,8 @@
 --   slots_in n ranks   the machine whose states are the words of a slot of n filters, given their rank sets
 use Rattle.std.specs.Prelude.{ℕ, List}
 use Rattle.automaton.specs.Machines.{Machine}
-use Rattle.slots.specs.inner.Slots.{asks_in, step_words, sure_set_in, out_set_in}
-use Rattle.slots.specs.Asking.{question_in, same_words}
+use Rattle.slots.specs.inner.Slots.{asks_in, step_words, sure_set_in, out_set_in, same_words}
+use Rattle.slots.specs.Asking.{question_in}
 
 abbrev pub slots_in : ℕ → List ℕ → Machine
 slots_in n ranks =

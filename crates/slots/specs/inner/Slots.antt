@@ -7,7 +7,8 @@
 --   step_question n ranks o q w   the slot after the question q came to o
 --   step_words n ranks o w  the slot after the question of w came to o
 --   start_words n ranks ws  the start of the list ws
-use Rattle.std.specs.Prelude.{ℕ, zero, suc, ◌+◌, ◌*◌, Bool, cond, not, ◌&&◌, List, [], ◌++◌, map, eqb, get_or, take, drop, Option}
+--   same_words a b          the same words
+use Rattle.std.specs.Prelude.{ℕ, zero, suc, ◌+◌, ◌*◌, Bool, cond, not, ◌&&◌, List, [], ◌++◌, map, eqb, get_or, take, drop, Option, true, false, ◌∷◌}
 use Rattle.std.specs.Int.Bits.{bit_and}
 use Rattle.residue.specs.Facts.{fact_of}
 use Rattle.residue.specs.Residues.{outside}
@@ -57,3 +58,9 @@ step_words n ranks o w = step_question n ranks o (item_of (question_in n w)) w
 
 unfoldable pub start_words : ℕ → List ℕ → List ℕ → List ℕ
 start_words n ranks ws = closed_words n ranks (written (map all_left (filters_of ws)))
+
+unfoldable pub same_words : List ℕ → List ℕ → Bool
+same_words [] [] = true
+same_words [] (b ∷ bs) = false
+same_words (a ∷ xs) [] = false
+same_words (a ∷ xs) (b ∷ bs) = eqb a b && same_words xs bs

@@ -35,8 +35,8 @@ use Rattle.states.specs.Same.{same_state}
 use Rattle.states.proofs.laws.Same.{same_state_eq, same_state_refl}
 use Rattle.slots.specs.Words.{question_words, filter_slot}
 use Rattle.slots.specs.inner.Words.{items_words, out_words, written_filter, written, read_filter}
-use Rattle.slots.specs.Asking.{out_mark, has_test, four_words, question_in, same_words}
-use Rattle.slots.specs.inner.Slots.{head_of, held_set, out_set_in, sure_set_in, closed_in, closed_words, asks_in, cut_words, step_question, step_words, start_words}
+use Rattle.slots.specs.Asking.{out_mark, has_test, four_words, question_in}
+use Rattle.slots.specs.inner.Slots.{head_of, held_set, out_set_in, sure_set_in, closed_in, closed_words, asks_in, cut_words, step_question, step_words, start_words, same_words}
 use Rattle.slots.specs.laws.Fitting.{fits_standing, fits_slot, fits_cut, fits_all}
 use Rattle.slots.specs.laws.Reading.{length_filter, take_filter, drop_filter, held_word, out_word, kind_mark, read_filter_lem, written_injective}
 use Rattle.residue.specs.declared.Test.{Test}
