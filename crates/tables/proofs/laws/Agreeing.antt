@@ -3,6 +3,7 @@
 --   agree_next      a next number that is put in changes nothing of it
 --   agree_parts     it agrees with a fresh one where the sets and the question are those of it
 --   agreeing_find   the first that agrees is what the library's find says
+--   agreeing_here, agreeing_on, agreeing_end   whether the next record agrees decides; where there is no more, none
 --   First, agreeing_first   it is one of those looked at, agrees, and none before it does
 --   agreeing_none   where there is none, none of those looked at agrees
 use Prim.Native.Nat.{ℕ, zero, suc, ◌+◌, ◌≤◌, ◌<◌}
@@ -10,7 +11,7 @@ use native.Mathlib.Omega.{arith}
 use Rattle.std.specs.Prelude.{◌≡◌, List, ◌&&◌, get_or, set, None, Some}
 use Rattle.std.specs.List.{find, range_with_len}
 use Rattle.std.proofs.Math.Path.{refl, subst, ap}
-use Rattle.std.proofs.Common.{lit<, get_or-set_other}
+use Rattle.std.proofs.Common.{sym, ◌∙◌, lit<, get_or-set_other}
 use Rattle.std.proofs.Math.Bool.{true, false, cond, and_assoc}
 use Rattle.std.proofs.Math.Dec.{eqb}
 use borrow.Author.Tests.{eq-eqb, eqb-true, eqb-false}
@@ -94,6 +95,18 @@ module _ (t f : List ℕ) where
   agreeing_find zero n = refl
   agreeing_find (suc k) n = ap (λ r. cond (agree (record_at t n) f) (Some n) r) (agreeing_find k (n + 1))
 
+  pub agreeing_here : (k n : ℕ) → agree (record_at t n) f ≡ true → agreeing_from (suc k) n t f ≡ Some n
+  unfolding agreeing_from
+  agreeing_here k n e = rw e
+
+  pub agreeing_on : (k n : ℕ) → agree (record_at t n) f ≡ false → agreeing_from (suc k) n t f ≡ agreeing_from k (n + 1) t f
+  unfolding agreeing_from
+  agreeing_on k n e = rw e
+
+  pub agreeing_end : (n : ℕ) → agreeing_from 0 n t f ≡ None
+  unfolding agreeing_from
+  agreeing_end n = refl
+
   -- It is one of those looked at, and agrees, and none before it does.
   pub record First (k n i : ℕ) : Type 0 where
     pub from : n ≤ i
@@ -106,16 +119,15 @@ module _ (t f : List ℕ) where
   each_from n j P low here behind = by_test (P j) (eqb n j) (λ q. subst P (eqb-true n j q) here) (λ q. let other = eqb-false n j q in behind (omega arith))
 
   pub agreeing_first : (k n i : ℕ) → agreeing_from k n t f ≡ Some i → First k n i
-  unfolding agreeing_from
-  agreeing_first zero n i e = absurd cc
+  agreeing_first zero n i e = let none : None ≡ Some i = sym (agreeing_end n) ∙ e in absurd cc
   agreeing_first (suc k) n i e =
       by_test (First (suc k) n i) (agree (record_at t n) f)
       (λ h.
-      let found : Some n ≡ Some i = rw h at e in
+      let found : Some n ≡ Some i = sym (agreeing_here k n h) ∙ e in
       let here : n ≡ i = cc in
       record { from = omega arith; below = omega arith; agrees = subst (λ j. agree (record_at t j) f ≡ true) here h; over = λ j low high. absurd (omega arith) })
       (λ h.
-      let next = agreeing_first k (n + 1) i (rw h at e) in
+      let next = agreeing_first k (n + 1) i (sym (agreeing_on k n h) ∙ e) in
       record {
         from = omega (arith, next.from);
         below = omega (arith, next.below);
@@ -124,9 +136,8 @@ module _ (t f : List ℕ) where
       })
 
   pub agreeing_none : (k n : ℕ) → agreeing_from k n t f ≡ None → (j : ℕ) → n ≤ j → j < n + k → agree (record_at t j) f ≡ false
-  unfolding agreeing_from
   agreeing_none zero n e j low high = absurd (omega arith)
   agreeing_none (suc k) n e j low high =
       by_test (agree (record_at t j) f ≡ false) (agree (record_at t n) f)
-      (λ h. let found : Some n ≡ None = rw h at e in absurd cc)
-      (λ h. each_from n j (λ m. agree (record_at t m) f ≡ false) low h (λ behind. agreeing_none k (n + 1) (rw h at e) j behind (omega arith)))
+      (λ h. let found : Some n ≡ None = sym (agreeing_here k n h) ∙ e in absurd cc)
+      (λ h. each_from n j (λ m. agree (record_at t m) f ≡ false) low h (λ behind. agreeing_none k (n + 1) (sym (agreeing_on k n h) ∙ e) j behind (omega arith)))
