@@ -16,7 +16,7 @@ mod place;
 mod rooms;
 mod start;
 
-// What meeting a state comes to: it stands at a place already, or it is new and now stored.
+// What meeting a state comes to: it stands at a place already, or it is new and now stored. An Option of an Option would say less.
 #[derive(Clone, Copy)]
 pub enum Met {
     Old(usize),

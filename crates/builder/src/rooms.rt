@@ -9,8 +9,8 @@ use lists::MAX_FILTERS;
 use sets::Set;
 
 // The rank sets of a list, a number of slots, and the lent words: the table has the records of the slots used, the scratch their
-// states. The next state is made in `words`, outside the slots: these are lent too, since the recursion comes through here and an
-// array would stand in each of its frames.
+// states. The next state is made in `words`, outside the slots: these are lent too, and have the length of a state. An array of its own
+// in `meet` or `step` would stand in each frame of the recursion.
 #[derive(Drop)]
 pub struct Builder<'a> {
     pub ranks: &'a [Set; MAX_FILTERS],

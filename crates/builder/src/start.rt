@@ -23,7 +23,8 @@ impl Builder<'_> {
     }
 }
 
-// Places the start and its ways; says how many slots are used then, and nothing where a state found none.
+// Places the start and its ways; says how many slots are used then, and nothing where a state found none. The struct of what placing
+// has at hand is made here.
 pub fn place_start(
     ranks: &[Set; MAX_FILTERS],
     list: &[u32],

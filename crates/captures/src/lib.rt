@@ -81,14 +81,14 @@ pub enum Stand {
     Refusing(Refused<u64>),
 }
 
-// So many bytes are taken, and where the replay stands behind them.
+// So many bytes are taken, and where the replay stands behind them. The bytes are lent, so that their number is told.
 #[derive(Clone, Copy)]
 struct Gone {
     taken: usize,
     stand: Stand,
 }
 
-// Where a replay stands, and how many bytes at the front of the buffer wait for more.
+// Where a replay stands, and how many bytes at the front of the buffer, which is lent, wait for more.
 #[derive(Clone, Copy, Debug, PartialEq, Eq)]
 pub struct Pause {
     pub stand: Stand,
@@ -309,7 +309,7 @@ impl Counting<'_> {
         }
     }
 
-    // Goes on as far as the bytes reach.
+    // Goes on as far as the bytes reach: each step says how many it took.
     fn run(&mut self, stand: Stand, s: &[u8]) -> Gone
         ensures kept { Kept self.old self.new }
         ensures within { result.taken ≤ length s.now }

@@ -125,7 +125,7 @@ impl Header {
         ensures { result ≡ reading_at self.now.present self.now.values number }
     {
         let value = self.values.get(number as usize)?;
-        self.has(number).then_some(*value)
+        if self.has(number) { Some(*value) } else { None }
     }
 
     // The set of the fields that are cut, by those that are present. A part that has its protocol's last field has them all, and a

@@ -136,7 +136,8 @@ fn links(words: &Record, read: Read, next: u32) -> bool
 }
 
 // Passes such links from a place on, each two further than the one before, with a question each, and none beyond the states. A table
-// that asks one field for many values is a chain of them; adding two goes on without waiting for the next number of each.
+// that asks one field for many values is a chain of them; adding two goes on without waiting for the next number of each. It goes by the
+// numbers of states.
 fn chain(table: &Table, from: Place, read: Read) -> Place
     requires { from.s < table.now.states }
     ensures { Chained table.now.words.now table.now.states read.field read.x from.left from.s result.left result.s }
@@ -173,7 +174,7 @@ fn inside(table: &Table, next: u32) -> Result<u32, Refusal>
     Ok(next)
 }
 
-// The walk from record 0 on. Each way has its own load and its own test:
+// The walk from record 0 on, by the numbers of states. Each way has its own load and its own test:
 // one `next` for all ways would make each record wait for the one before it.
 fn walk_from(sight: &Sight, table: &Table, allowance: u32) -> Result<Walk, Refusal>
     ensures { result ≡ walk_from table.now.words.now table.now.states (seen sight.now.frame.now sight.now.port) allowance 0 false 0 }

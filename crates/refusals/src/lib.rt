@@ -1,4 +1,4 @@
-// Why a call refuses (document 01, "Refusal numbers"; 15, 16 and 24 are document 02's P5, 17 and 18 its P10).
+// Why a call refuses (document 01, "Refusal numbers"; 15 and 16 are document 02's P5, 17 and 18 its P10, and 24 is a number of our own).
 #![tactic(auto)]
 
 ghost use Rattle.std.specs.Prelude.{◌≡◌};

@@ -15,7 +15,7 @@ pub enum Test {
     AtLeast(u32),
 }
 
-// What a question came to.
+// What a question came to, in three ways.
 #[derive(Clone, Copy, Debug, PartialEq, Eq)]
 pub enum Outcome {
     Holds,
@@ -23,7 +23,7 @@ pub enum Outcome {
     Absent,
 }
 
-// What is left of a test.
+// What is left of a test: it holds, it fails, or a test is left.
 #[derive(Clone, Copy, Debug, PartialEq, Eq)]
 pub enum Residue {
     True,

@@ -168,7 +168,7 @@ pub fn same(a: &[u32], b: &[u32]) -> bool
     ensures { result ≡ same_words a.now b.now }
 {
     let mut end = a.len();
-    // Written by index: of the parts that rchunks lends a proof knows the run alone.
+    // By places: of the parts that rchunks lends a proof knows the run alone.
     while 0 < end {
         let at = end.saturating_sub(FILTER_WORDS);
         let is_same = &a[at..end] == &b[at..end];
