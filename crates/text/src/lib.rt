@@ -96,11 +96,12 @@ pub fn read_words(text: &[u8], words: &mut [u32; MAX_ITEMS]) -> Result<usize, Re
     read_items(text, words)
 }
 
-// Reads behind the bytes held until the room is full or the input ends, and tells where.
+// Reads behind the bytes held until the room is full or the input ends, and tells where. The bytes held stay, also where a read fails.
 // A loop of its own: `read_exact` does not tell how many bytes came, and `read_to_end` wants a heap.
 pub fn fill(input: &mut impl Read, room: &mut [u8], held: usize) -> io::Result<usize>
     requires { held ≤ length room.old }
-    ensures { IfOk result (λ end. (held ≤ end) × (end ≤ length room.new) × (take held room.new ≡ take held room.old)) }
+    ensures kept { take held room.new ≡ take held room.old }
+    ensures within { IfOk result (λ end. (held ≤ end) × (end ≤ length room.new)) }
 {
     let mut end = held;
     while end < room.len() {
