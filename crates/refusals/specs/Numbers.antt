@@ -1,8 +1,10 @@
--- Document 01, "Refusal numbers": the number that each refusal has, and the refusals that name no filter.
+-- Document 01, "Refusal numbers": the number that each refusal has, the refusals that name no filter, and the text of a refusal.
 --   number_of r      the refusal's number
 --   refused r i      the refusal r at the place i, a filter's or a record's number
 --   unplaced r       the refusal r, with 0 for its place
-use Rattle.std.specs.Prelude.{ℕ}
+--   shown text r     the text of the refusal r: `refused`, its number and its place, apart by spaces, where text knows the place's own
+use Rattle.std.specs.Prelude.{ℕ, List, ◌++◌, Option, Some, codes, decimal}
+use Rattle.std.specs.Fmt.{◌++?◌}
 use Rattle.refusals.specs.declared.Refusal.{Refusal}
 use Rattle.refusals.specs.declared.Refusal.TheVariants.{ManyFilters, CutFilter, Rank, ManyTests, Kind, Field, Mask, Width, Value, ScratchRoom, TableRoom, LongFrame, Table, Text, FullTally, Verdicts, Capture, CutRecord, Tallies}
 use Rattle.refusals.specs.declared.Refused.{Refused}
@@ -33,3 +35,6 @@ refused r i = record { refusal = r; place = i }
 
 abbrev pub unplaced : Refusal → Refused ℕ
 unplaced r = refused r 0
+
+abbrev pub shown : {N : Type 0} → (N → Option (List ℕ)) → Refused N → Option (List ℕ)
+shown text r = Some (codes "refused " ++ decimal (number_of r.refusal) ++ codes " ") ++? text r.place

@@ -2,7 +2,7 @@
 #![tactic(auto)]
 
 ghost use Rattle.std.specs.Prelude.{◌≡◌};
-ghost use Rattle.refusals.specs.Numbers.{number_of, unplaced};
+ghost use Rattle.refusals.specs.Numbers.{number_of, unplaced, shown};
 
 use std::fmt;
 
@@ -88,6 +88,8 @@ impl From<Refusal> for Refused<u64> {
 
 // As the programs print it: the refusal's number, and the place.
 impl<N: fmt::Display> fmt::Display for Refused<N> {
+    ghost output = { shown N.output };
+
     fn fmt<W: fmt::Write>(&self, f: &mut fmt::Formatter<W>) -> fmt::Result {
         write!(f, "refused {} {}", self.refusal.number(), self.place)
     }
