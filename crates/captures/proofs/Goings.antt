@@ -13,10 +13,11 @@ use Rattle.lists.specs.laws.Accepted.{accepted_count}
 use Rattle.lists.specs.declared.Counts.{Counts}
 use Rattle.refusals.specs.declared.Refused.{Refused}
 use Rattle.captures.specs.Files.{file_header, record_header, captured, original, record_bytes}
-use Rattle.captures.specs.Replay.{next_count, short_at, long_at, tally_room, count_up, counted, short, long, tallied}
+use Rattle.captures.specs.Replay.{next_count, short_at, long_at, tally_room, count_up, counted, short, long, tallied, numbered}
 use Rattle.captures.specs.Parts.{amid, paused, passes, records_to, within, ran, went_on_by, went_on, WentOn}
 use Rattle.captures.specs.inner.Steps.{gone, opened, Took, Waited, fitted_by, fitted}
 use Rattle.captures.specs.declared.Order.{Order}
+use Rattle.captures.specs.declared.Numbered.{Numbered}
 use Rattle.captures.specs.declared.Reading.{Reading}
 use Rattle.captures.specs.declared.Stand.{Stand}
 use Rattle.captures.specs.declared.Stand.TheVariants.{Start, Within, Refusing}
@@ -96,7 +97,7 @@ module _ (fs : List Filter) (st : Stand) (ts s : List ℕ) where
   pub went_none : length s ≡ 0 → Waited fs st ts s ts
   went_none e = rw (empty s e) record { counts = refl; rests = ran_none fs st ts }
 
-  pub went_refused : (r : Refused ℕ) → st ≡ Refusing r → 0 < length s → Took fs st ts s (gone (length s) st) ts
+  pub went_refused : (r : Numbered) → st ≡ Refusing r → 0 < length s → Took fs st ts s (gone (length s) st) ts
   unfolding ran
   went_refused r e h = rw e record { some = h; within = omega arith; keeps = refl }
 
@@ -110,7 +111,7 @@ module _ (fs : List Filter) (ts s : List ℕ) where
   went_open st e h = record { some = omega arith; within = h; keeps = rw e (open_turn fs ts s h) }
 
 -- A list that is refused, and one that takes another number of tallies.
-refused_by : (x : Listed) (l : List ℕ) (st : Stand) (ts s : List ℕ) (r : Refused ℕ) → fitted_by x (length ts) ≡ Err r → went_on_by x l st ts s ≡ paused (Refusing r) ts []
+refused_by : (x : Listed) (l : List ℕ) (st : Stand) (ts s : List ℕ) (r : Refused ℕ) → fitted_by x (length ts) ≡ Err r → went_on_by x l st ts s ≡ paused (Refusing (numbered r)) ts []
 unfolding went_on_by
 refused_by (Err q) l st ts s r e = cc
 refused_by (Ok c) l st ts s r e = grind arith
@@ -125,7 +126,7 @@ fitting l n c e = fitting_by (listed l) n c e
 
 -- Nothing waits at a refusal; else the bytes go on, all of the buffer where it has fewer.
 module _ (l : List ℕ) (st : Stand) (before ts : List ℕ) (held : ℕ) where
-  pub on_refused : (r : Refused ℕ) → fitted l (length ts) ≡ Err r → WentOn (went_on l st ts (take held before)) before (record { stand = Refusing r; held = 0 }) before ts
+  pub on_refused : (r : Refused ℕ) → fitted l (length ts) ≡ Err r → WentOn (went_on l st ts (take held before)) before (record { stand = Refusing (numbered r); held = 0 }) before ts
   unfolding fitted went_on
   on_refused r e = rw (refused_by (listed l) l st ts (take held before) r e) record { stand = refl; held = refl; buffer = refl; tallies = refl }
 

@@ -19,8 +19,9 @@ use Rattle.refusals.specs.declared.Refusal.TheVariants.{Capture, CutRecord, Tall
 use Rattle.refusals.specs.declared.Refused.{Refused}
 use Rattle.text.specs.Text.{text_refusal, readable, words_of}
 use Rattle.captures.specs.Files.{file_header, record_header, order_of, linked, record_bytes, cut}
-use Rattle.captures.specs.Replay.{next_count, tally_room, short, long, tallied, Replay, replay_of}
+use Rattle.captures.specs.Replay.{next_count, tally_room, short, long, tallied, numbered, Replay, replay_of}
 use Rattle.captures.specs.declared.Order.{Order}
+use Rattle.captures.specs.declared.Numbered.{Numbered}
 use Rattle.captures.specs.declared.Stand.{Stand}
 use Rattle.captures.specs.declared.Stand.TheVariants.{Start, Within, Refusing}
 use Rattle.captures.specs.declared.Pause.{Pause}
@@ -60,14 +61,14 @@ within fs o skip k ts s =
 unfoldable pub ran : List Filter → Stand → List ℕ → List ℕ → Paused
 ran fs Start ts s =
     cond (ltb (length s) file_header) (paused Start ts s)
-    (cond (linked s) (within fs (order_of s) file_header 0 ts s) (paused (Refusing (unplaced Capture)) ts []))
+    (cond (linked s) (within fs (order_of s) file_header 0 ts s) (paused (Refusing (numbered (unplaced Capture))) ts []))
 ran fs (Within w) ts s = within fs w.order w.left w.number ts s
 ran fs (Refusing r) ts s = paused (Refusing r) ts []
 
 unfoldable pub went_on_by : Listed → List ℕ → Stand → List ℕ → List ℕ → Paused
-went_on_by (Err r) l st ts s = paused (Refusing r) ts []
+went_on_by (Err r) l st ts s = paused (Refusing (numbered r)) ts []
 went_on_by (Ok c) l st ts s =
-    cond (eqb (length ts) (tally_room c.filters)) (ran (filters_of l) st ts s) (paused (Refusing (unplaced Tallies)) ts [])
+    cond (eqb (length ts) (tally_room c.filters)) (ran (filters_of l) st ts s) (paused (Refusing (numbered (unplaced Tallies))) ts [])
 
 unfoldable pub went_on : List ℕ → Stand → List ℕ → List ℕ → Paused
 went_on l st ts s = went_on_by (listed l) l st ts s
@@ -80,10 +81,10 @@ pub record WentOn (p : Paused) (before : List ℕ) (r : Pause) (after counts : L
   pub tallies : counts ≡ p.counts
 
 -- The end of the file cuts a record that is being skipped, or one that waits.
-unfoldable pub ending : Stand → ℕ → Result ℕ (Refused ℕ)
-ending Start left = Err (unplaced Capture)
+unfoldable pub ending : Stand → ℕ → Result ℕ Numbered
+ending Start left = Err (numbered (unplaced Capture))
 ending (Within w) left =
-    cond (eqb w.left 0) (cond (eqb left 0) (Ok w.number) (Err (refused CutRecord (next_count w.number)))) (Err (refused CutRecord w.number))
+    cond (eqb w.left 0) (cond (eqb left 0) (Ok w.number) (Err (numbered (refused CutRecord (next_count w.number))))) (Err (numbered (refused CutRecord w.number)))
 ending (Refusing r) left = Err r
 
 unfoldable pub begun_with : Listed → ℕ → Result Ready (Refused ℕ)
@@ -102,7 +103,7 @@ unfoldable pub finished : Paused → Replay
 finished p = replay_of (ending p.stand (length p.rest)) p.counts
 
 unfoldable pub played_by : Result Ready (Refused ℕ) → List ℕ → List (List ℕ) → Replay
-played_by (Err r) l parts = replay_of (Err r) []
+played_by (Err r) l parts = replay_of (Err (numbered r)) []
 played_by (Ok r) l parts = finished (fed l (paused Start (replicate r.tallies 0) []) parts)
 
 unfoldable pub played : List ℕ → List (List ℕ) → Replay

@@ -7,6 +7,7 @@
 --   counted n s ts         a frame with the match set s, by n filters
 --   short, long o s        less was captured than there was; more bytes than a frame may have
 --   tallied fs o s ts      the record with which the bytes s begin: short, too long, or matched
+--   numbered r              the refusal r by its number, at its place
 --   Replay, replay_of       the answer: so many records, or a refusal with the record's number; and the tallies in the order in which they are printed; none with a refusal
 --   records fs o k ts s    what the bytes s, behind k records and their tallies ts, come to
 --   replayed fs s          the whole file s
@@ -18,12 +19,13 @@ use Rattle.fields.specs.Fields.{field}
 use Rattle.lists.specs.Filters.{Filter, filters_of}
 use Rattle.lists.specs.Ranks.{match_set}
 use Rattle.lists.specs.Refusals.{Listed, listed}
-use Rattle.refusals.specs.Numbers.{refused, unplaced}
+use Rattle.refusals.specs.Numbers.{number_of, refused, unplaced}
 use Rattle.refusals.specs.declared.Refusal.TheVariants.{Capture, CutRecord}
 use Rattle.refusals.specs.declared.Refused.{Refused}
 use Rattle.text.specs.Text.{text_refusal, readable, words_of}
 use Rattle.captures.specs.Files.{file_header, order_of, headed, captured, original, record_bytes, cut, frame_of}
 use Rattle.captures.specs.declared.Order.{Order}
+use Rattle.captures.specs.declared.Numbered.{Numbered}
 
 abbrev pub most_count : ℕ
 most_count = 18446744073709551615
@@ -75,11 +77,14 @@ tallied fs o s ts =
     (cond (long o s) (count_up (long_at (length fs)) ts)
     (counted (length fs) (match_set fs (field (frame_of o s) 0)) ts))
 
+abbrev pub numbered : Refused ℕ → Numbered
+numbered r = record { number = number_of r.refusal; place = r.place }
+
 pub record Replay : Type 0 where
-  pub answer : Result ℕ (Refused ℕ)
+  pub answer : Result ℕ Numbered
   pub counts : List ℕ
 
-unfoldable pub replay_of : Result ℕ (Refused ℕ) → List ℕ → Replay
+unfoldable pub replay_of : Result ℕ Numbered → List ℕ → Replay
 replay_of (Ok k) ts = record { answer = Ok k; counts = ts }
 replay_of (Err r) ts = record { answer = Err r; counts = [] }
 
@@ -88,7 +93,7 @@ unfoldable pub records_from : ℕ → List Filter → Order → ℕ → List ℕ
 records_from zero fs o k ts s = replay_of (Ok k) ts
 records_from (suc n) fs o k ts [] = replay_of (Ok k) ts
 records_from (suc n) fs o k ts (b ∷ s) =
-    cond (cut o (b ∷ s)) (replay_of (Err (refused CutRecord (next_count k))) ts)
+    cond (cut o (b ∷ s)) (replay_of (Err (numbered (refused CutRecord (next_count k)))) ts)
     (records_from n fs o (next_count k) (tallied fs o (b ∷ s) ts) (drop (record_bytes o (b ∷ s)) (b ∷ s)))
 
 unfoldable pub records : List Filter → Order → ℕ → List ℕ → List ℕ → Replay
@@ -97,12 +102,12 @@ records fs o k ts s = records_from (length s) fs o k ts s
 unfoldable pub replayed : List Filter → List ℕ → Replay
 replayed fs s =
     cond (headed s) (records fs (order_of s) 0 (replicate (tally_room (length fs)) 0) (drop file_header s))
-    (replay_of (Err (unplaced Capture)) [])
+    (replay_of (Err (numbered (unplaced Capture))) [])
 
 unfoldable pub replayed_by : Listed → List ℕ → List ℕ → Replay
-replayed_by (Err r) l s = replay_of (Err r) []
+replayed_by (Err r) l s = replay_of (Err (numbered r)) []
 replayed_by (Ok c) l s = replayed (filters_of l) s
 
 -- Refusal 14 comes first, then the list's own.
 unfoldable pub text_replayed : List ℕ → List ℕ → Replay
-text_replayed x s = cond (readable x) (replayed_by (listed (words_of x)) (words_of x) s) (replay_of (Err (unplaced text_refusal)) [])
+text_replayed x s = cond (readable x) (replayed_by (listed (words_of x)) (words_of x) s) (replay_of (Err (numbered (unplaced text_refusal))) [])

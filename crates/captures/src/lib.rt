@@ -1,12 +1,12 @@
 // A capture (a classic libpcap file) is replayed through a list, part after part: where the parts end does not matter (change request P10).
 #![tactic(auto)]
 
-ghost use Rattle.std.specs.Prelude.{◌≡◌, ◌++◌, ℕ, ◌+◌, ◌≤◌, ◌<◌, List, length, take, drop, Ok};
+ghost use Rattle.std.specs.Prelude.{◌≡◌, ◌++◌, ℕ, ◌+◌, ◌≤◌, ◌<◌, List, length, take, drop, codes, decimal, Some, Ok};
 ghost use Rattle.lists.specs.Filters.{max_filters, Filter, filters_of};
 ghost use Rattle.lists.specs.Refusals.{listed};
 ghost use Rattle.text.specs.Text.{words_of};
 ghost use Rattle.captures.specs.Files.{file_header, record_header, word_of, begins};
-ghost use Rattle.captures.specs.Replay.{next_count, tally_room, last_tallies, count_up, count_set, counted};
+ghost use Rattle.captures.specs.Replay.{next_count, tally_room, last_tallies, count_up, count_set, counted, numbered};
 ghost use Rattle.captures.specs.Parts.{amid, paused, ran, went_on, WentOn, ending, begun_by};
 ghost use Rattle.captures.specs.inner.Steps.{gone, opened, Skipped, Went, fitted};
 ghost use Rattle.captures.specs.declared.Stand.TheVariants.{Start, Within};
@@ -17,6 +17,7 @@ use fields::MAX_FRAME;
 use lists::Counts;
 use refusals::{Refusal, Refused};
 use sets::Set;
+use std::fmt;
 use text::MAX_ITEMS;
 
 // The bytes of the file's header and of a record's, and where the link type and the two lengths stand in them.
@@ -73,12 +74,40 @@ pub struct Reading {
     pub number: u64,
 }
 
+// A refusal by its number, and the number of the filter or record that it names, 0 where none is. A standing that a caller hands
+// over may hold any number.
+#[derive(Clone, Copy, Debug, PartialEq, Eq)]
+pub struct Numbered {
+    pub number: u32,
+    pub place: u64,
+}
+
+impl From<Refused<u64>> for Numbered {
+    ghost from_gives = { λ refused answer. answer ≡ numbered refused };
+
+    fn from(refused: Refused<u64>) -> Numbered {
+        Numbered {
+            number: refused.refusal.number(),
+            place: refused.place,
+        }
+    }
+}
+
+// As the program prints it: the number, and the place.
+impl fmt::Display for Numbered {
+    ghost output = { λ refusal. Some (codes "refused " ++ decimal refusal.number ++ codes " " ++ decimal refusal.place) };
+
+    fn fmt<W: fmt::Write>(&self, f: &mut fmt::Formatter<W>) -> fmt::Result {
+        write!(f, "refused {} {}", self.number, self.place)
+    }
+}
+
 // Where a replay stands: before the file's header, within the records, or at a refusal.
 #[derive(Clone, Copy, Debug, PartialEq, Eq)]
 pub enum Stand {
     Start,
     Within(Reading),
-    Refusing(Refused<u64>),
+    Refusing(Numbered),
 }
 
 // So many bytes are taken, and where the replay stands behind them. The bytes are lent, so that their number is told.
@@ -146,7 +175,7 @@ fn opened(s: &[u8]) -> Stand
             number: 0,
         });
     }
-    Stand::Refusing(Refusal::Capture.into())
+    Stand::Refusing(Refused::<u64>::from(Refusal::Capture).into())
 }
 
 // A count goes up by one; the greatest stays as it is.
@@ -398,7 +427,7 @@ pub fn go_on(
             counting.advance(stand, buffer, end)
         }
         Err(refused) => Pause {
-            stand: Stand::Refusing(refused),
+            stand: Stand::Refusing(refused.into()),
             held: 0,
         },
     }
@@ -406,11 +435,11 @@ pub fn go_on(
 
 // The answer at the end of the file, where so many bytes wait: so many records, or a refusal with the record's number.
 #[tactic(auto, unfolding(crate::specs::Parts::ending))]
-pub fn finish(stand: Stand, held: usize) -> Result<u64, Refused<u64>>
+pub fn finish(stand: Stand, held: usize) -> Result<u64, Numbered>
     ensures { result ≡ ending stand held }
 {
     match stand {
-        Stand::Start => Err(Refusal::Capture.into()),
+        Stand::Start => Err(Refused::<u64>::from(Refusal::Capture).into()),
         Stand::Within(reading) => {
             let number = reading.number;
             if reading.left != 0 {
@@ -426,11 +455,12 @@ pub fn finish(stand: Stand, held: usize) -> Result<u64, Refused<u64>>
 }
 
 // The end of the file cuts the record that is named.
-fn cut_at(place: u64) -> Refused<u64>
-    ensures { result ≡ refused CutRecord place }
+fn cut_at(place: u64) -> Numbered
+    ensures { result ≡ numbered (refused CutRecord place) }
 {
     Refused {
         refusal: Refusal::CutRecord,
         place,
     }
+    .into()
 }

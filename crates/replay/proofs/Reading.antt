@@ -4,11 +4,12 @@
 use Rattle.std.specs.Prelude.{ℕ, ◌+◌, ◌≤◌, ◌≡◌, refl, List, [], ◌∷◌, ◌++◌, length, take, drop, replicate, Result, Ok, Err}
 use Rattle.std.proofs.Common.{sym, ap, ◌∙◌, arith, length-append, length-take-le, take-append-drop, take-take, take_at}
 use Rattle.std.proofs.lemmas.List.{length-replicate, take-replicate}
-use Rattle.captures.specs.Replay.{replay_of, text_replayed}
+use Rattle.captures.specs.Replay.{numbered, replay_of, text_replayed}
 use Rattle.captures.specs.Parts.{Paused, paused, went_on, WentOn, ending, begun_by, fed, finished, played_by, played, joined}
 use Rattle.captures.specs.laws.Whole.{played_whole, ready_fit}
 use Rattle.refusals.specs.declared.Refused.{Refused}
 use Rattle.text.specs.Text.{words_of}
+use Rattle.captures.specs.declared.Numbered.{Numbered}
 use Rattle.captures.specs.declared.Stand.{Stand}
 use Rattle.captures.specs.declared.Stand.TheVariants.{Start}
 use Rattle.captures.specs.declared.Pause.{Pause}
@@ -48,7 +49,7 @@ pub fed_on : (l : List ℕ) (q : Paused) (parts : List (List ℕ)) (st : Stand) 
 fed_on l q parts st held ts st' held' buffer ts' e w =
     fed_more l q parts w.part ∙ ap (λ (x : Paused). went_on l x.stand x.counts (x.rest ++ w.part)) e ∙ w.went
 
-pub answer_so : (l : List ℕ) (q : Paused) (parts : List (List ℕ)) (st : Stand) (ts : List ℕ) (held : ℕ) (buffer : List ℕ) (answer : Result ℕ (Refused ℕ)) →
+pub answer_so : (l : List ℕ) (q : Paused) (parts : List (List ℕ)) (st : Stand) (ts : List ℕ) (held : ℕ) (buffer : List ℕ) (answer : Result ℕ Numbered) →
     held ≤ length buffer → fed l q parts ≡ paused st ts (take held buffer) → answer ≡ ending st held → replay_of answer ts ≡ finished (fed l q parts)
 unfolding finished
 answer_so l q parts st ts held buffer answer h e f = rw (e, length-take-le held buffer h, f)
@@ -69,10 +70,10 @@ module _ (ts part : List ℕ) (n : ℕ) (h : n ≤ length ts) (e : length part �
 
 -- What beginning with a text left: its words stand first.
 module _ (x before after : List ℕ) (b : Result Ready (Refused ℕ)) (p : b ≡ begun_by x) (q : after ≡ words_of x ++ drop (length (words_of x)) before) where
-  pub refused_text : (r : Refused ℕ) → b ≡ Err r → (file : List ℕ) × (replay_of (Err r) [] ≡ text_replayed x file)
+  pub refused_text : (r : Refused ℕ) → b ≡ Err r → (file : List ℕ) × (replay_of (Err (numbered r)) [] ≡ text_replayed x file)
   unfolding played played_by replay_of joined
   refused_text r e =
-      let so : played x [] ≡ replay_of (Err r) [] = rw (sym p ∙ e) in
+      let so : played x [] ≡ replay_of (Err (numbered r)) [] = rw (sym p ∙ e) in
       ([], sym so ∙ played_whole x [])
 
   module _ (r : Ready) (e : b ≡ Ok r) where
@@ -92,7 +93,7 @@ module _ (x before after : List ℕ) (b : Result Ready (Refused ℕ)) (p : b ≡
     unfolding played played_by
     ready_played parts = rw (sym p ∙ e)
 
-    pub ready_text : (ts part : List ℕ) (answer : Result ℕ (Refused ℕ)) → ts ≡ noughts all_tallies → length part ≡ length (take r.tallies ts) →
+    pub ready_text : (ts part : List ℕ) (answer : Result ℕ Numbered) → ts ≡ noughts all_tallies → length part ≡ length (take r.tallies ts) →
         (parts : List (List ℕ)) × (replay_of answer part ≡ finished (fed (take r.words after) (paused Start (take r.tallies ts) []) parts)) →
         (file : List ℕ) × (replay_of answer (take r.tallies (part ++ drop r.tallies ts)) ≡ text_replayed x file)
     ready_text ts part answer z long a =

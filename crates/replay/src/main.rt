@@ -5,9 +5,8 @@
 ghost use Rattle.std.specs.Prelude.{◌≡◌, ◌≤◌, IfOk, length, replicate};
 ghost use Rattle.replay.specs.inner.Reads.{all_tallies, Answers, TextAnswers};
 
-use captures::{LAST_TALLIES, Pause, Stand};
+use captures::{LAST_TALLIES, Numbered, Pause, Stand};
 use lists::MAX_FILTERS;
-use refusals::Refused;
 use std::env::{Env, FillError};
 use std::fs::Files;
 use std::io::{ErrorKind, Read};
@@ -30,7 +29,7 @@ const TALLIES: usize = MAX_FILTERS + LAST_TALLIES;
 const PARTS: u64 = u64::MAX;
 
 // The answer to a capture: so many records, or a refusal with the record's number.
-type Answer = Result<u64, Refused<u64>>;
+type Answer = Result<u64, Numbered>;
 
 // A file can't be read, and a line on standard error has said why.
 #[derive(Clone, Copy)]
@@ -170,7 +169,7 @@ fn replay_text(
     let mut words = [0u32; MAX_ITEMS];
     match captures::begin(text, &mut words) {
         Err(refused) => Ok(Ended {
-            answer: Err(refused),
+            answer: Err(refused.into()),
             tallies: 0,
         }),
         Ok(ready) => {

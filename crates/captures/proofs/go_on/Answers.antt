@@ -10,4 +10,4 @@ pub returns-in-Ok : goal.returns-in-Ok
 returns-in-Ok c = let went = on_fitting _ _ _ _ _ _ _ _ _ _ (sym c.in-Ok.ensures) c.min-end.ensures c.advance.ensures.went in search rules
 
 pub returns-in-Err : goal.returns-in-Err
-returns-in-Err c = on_refused _ _ _ _ _ _ (sym c.in-Err.ensures)
+returns-in-Err c = rw c.into.ensures (on_refused _ _ _ _ _ _ (sym c.in-Err.ensures))

@@ -11,7 +11,7 @@ use Rattle.lists.specs.Filters.{Filter}
 use Rattle.refusals.specs.Numbers.{unplaced}
 use Rattle.refusals.specs.declared.Refusal.TheVariants.{Capture, Tallies}
 use Rattle.lists.specs.Refusals.{Listed, listed}
-use Rattle.captures.specs.Replay.{tally_room}
+use Rattle.captures.specs.Replay.{tally_room, numbered}
 use Rattle.captures.specs.Files.{order_of, linked}
 use Rattle.captures.specs.Parts.{amid, paused, ran}
 use Rattle.captures.specs.declared.Reading.{Reading}
@@ -23,7 +23,7 @@ abbrev pub gone : ℕ → Stand → Gone
 gone n st = record { taken = n; stand = st }
 
 unfoldable pub opened : List ℕ → Stand
-opened s = cond (linked s) (amid (order_of s) 0 0) (Refusing (unplaced Capture))
+opened s = cond (linked s) (amid (order_of s) 0 0) (Refusing (numbered (unplaced Capture)))
 
 pub record Took (fs : List Filter) (st : Stand) (ts s : List ℕ) (g : Gone) (ts' : List ℕ) : Type 0 where
   pub some : 0 < g.taken

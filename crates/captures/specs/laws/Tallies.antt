@@ -14,10 +14,10 @@ use Rattle.lists.specs.Filters.{Filter}
 use Rattle.lists.specs.Ranks.{match_set}
 use Rattle.refusals.specs.Numbers.{refused, unplaced}
 use Rattle.refusals.specs.declared.Refusal.TheVariants.{Capture, CutRecord}
-use Rattle.refusals.specs.declared.Refused.{Refused}
 use Rattle.captures.specs.Files.{file_header, order_of, headed, record_bytes, cut, frame_of}
-use Rattle.captures.specs.Replay.{most_count, next_count, matched_at, unmatched_at, short_at, long_at, tally_room, last_four, count_up, count_set, counted, short, long, tallied, Replay, replay_of, records_from, records, replayed}
+use Rattle.captures.specs.Replay.{most_count, next_count, matched_at, unmatched_at, short_at, long_at, tally_room, last_four, count_up, count_set, counted, short, long, tallied, numbered, Replay, replay_of, records_from, records, replayed}
 use Rattle.captures.specs.declared.Order.{Order}
+use Rattle.captures.specs.declared.Numbered.{Numbered}
 
 pub up_long : (i : ℕ) (ts : List ℕ) → length (count_up i ts) ≡ length ts
 unfolding count_up
@@ -124,7 +124,7 @@ module _ (fs : List Filter) where
   unfolding replay_of
   counted_sums k ts a j e h = let same : k ≡ j = cc in a.1 (omega (arith, same, h)) ∙ same
 
-  refused_sums : (r : Refused ℕ) (ts : List ℕ) → Sums (replay_of (Err r) ts)
+  refused_sums : (r : Numbered) (ts : List ℕ) → Sums (replay_of (Err r) ts)
   unfolding replay_of
   refused_sums r ts j e h = cc
 
@@ -133,7 +133,7 @@ module _ (fs : List Filter) where
   records_sum zero o k ts s a = counted_sums k ts a
   records_sum (suc m) o k ts [] a = counted_sums k ts a
   records_sum (suc m) o k ts (b ∷ s) a =
-      by_cond Sums (cut o (b ∷ s)) (λ _. refused_sums (refused CutRecord (next_count k)) ts)
+      by_cond Sums (cut o (b ∷ s)) (λ _. refused_sums (numbered (refused CutRecord (next_count k))) ts)
       (λ _. records_sum m o (next_count k) (tallied fs o (b ∷ s) ts) (drop (record_bytes o (b ∷ s)) (b ∷ s)) (next_adds_up o k (b ∷ s) ts a))
 
   abbrev zeros : List ℕ
@@ -152,4 +152,4 @@ module _ (fs : List Filter) where
   pub adds_up : (s : List ℕ) → Sums (replayed fs s)
   unfolding replayed records
   adds_up s =
-      by_cond Sums (headed s) (λ _. records_sum (length (drop file_header s)) (order_of s) 0 zeros (drop file_header s) none_yet) (λ _. refused_sums (unplaced Capture) [])
+      by_cond Sums (headed s) (λ _. records_sum (length (drop file_header s)) (order_of s) 0 zeros (drop file_header s) none_yet) (λ _. refused_sums (numbered (unplaced Capture)) [])

@@ -23,12 +23,12 @@ use Rattle.lists.specs.Filters.{Filter}
 use Rattle.lists.specs.Ranks.{match_set}
 use Rattle.refusals.specs.Numbers.{unplaced}
 use Rattle.refusals.specs.declared.Refusal.TheVariants.{Capture}
-use Rattle.refusals.specs.declared.Refused.{Refused}
 use Rattle.captures.specs.Files.{file_header, record_header, order_of, linked, captured, original, record_bytes, cut, frame_of}
-use Rattle.captures.specs.Replay.{next_count, short_at, long_at, count_up, counted, short, long, tallied}
+use Rattle.captures.specs.Replay.{next_count, short_at, long_at, count_up, counted, short, long, tallied, numbered}
 use Rattle.captures.specs.Parts.{amid, Paused, paused, passes, halted, records_to, within, ran}
 use Rattle.captures.specs.inner.Steps.{opened}
 use Rattle.captures.specs.declared.Order.{Order}
+use Rattle.captures.specs.declared.Numbered.{Numbered}
 use Rattle.captures.specs.declared.Stand.TheVariants.{Start, Refusing}
 
 -- The same truth of both, both less by n.
@@ -99,9 +99,9 @@ module _ (fs : List Filter) where
 
   -- The file's header is taken.
   opened_turn : (b : Bool) (o : Order) (ts s : List ℕ) →
-      cond b (within fs o file_header 0 ts s) (paused (Refusing (unplaced Capture)) ts []) ≡
-      cond b (within fs o 0 0 ts (drop file_header s)) (paused (Refusing (unplaced Capture)) ts []) →
-      cond b (within fs o file_header 0 ts s) (paused (Refusing (unplaced Capture)) ts []) ≡ ran fs (cond b (amid o 0 0) (Refusing (unplaced Capture))) ts (drop file_header s)
+      cond b (within fs o file_header 0 ts s) (paused (Refusing (numbered (unplaced Capture))) ts []) ≡
+      cond b (within fs o 0 0 ts (drop file_header s)) (paused (Refusing (numbered (unplaced Capture))) ts []) →
+      cond b (within fs o file_header 0 ts s) (paused (Refusing (numbered (unplaced Capture))) ts []) ≡ ran fs (cond b (amid o 0 0) (Refusing (numbered (unplaced Capture)))) ts (drop file_header s)
   unfolding ran
   opened_turn true o ts s e = e
   opened_turn false o ts s e = refl
@@ -111,7 +111,7 @@ module _ (fs : List Filter) where
   open_turn ts s h =
       let skipped : within fs (order_of s) file_header 0 ts s ≡ within fs (order_of s) 0 0 ts (drop file_header s) = skip_part (order_of s) file_header 0 file_header ts s (omega arith) h in
       rw (le-ltb (length s) file_header h)
-      (opened_turn (linked s) (order_of s) ts s (ap (λ (p : Paused). cond (linked s) p (paused (Refusing (unplaced Capture)) ts [])) skipped))
+      (opened_turn (linked s) (order_of s) ts s (ap (λ (p : Paused). cond (linked s) p (paused (Refusing (numbered (unplaced Capture))) ts [])) skipped))
 
   pub skip_turn : (o : Order) (skip k n : ℕ) (ts s : List ℕ) → n ≤ skip → n ≤ length s → ran fs (amid o skip k) ts s ≡ ran fs (amid o (skip - n) k) ts (drop n s)
   unfolding ran
@@ -148,7 +148,7 @@ module _ (fs : List Filter) where
       let held : records_to (length s) fs o k ts s ≡ paused (amid o 0 k) ts s = turn o k ts s ∙ rw (cut_so o s h, e) in
       within_none o k ts s ∙ held
 
-  pub refusing_turn : (r : Refused ℕ) (ts s : List ℕ) → ran fs (Refusing r) ts s ≡ paused (Refusing r) ts []
+  pub refusing_turn : (r : Numbered) (ts s : List ℕ) → ran fs (Refusing r) ts s ≡ paused (Refusing r) ts []
   unfolding ran
   refusing_turn r ts s = refl
 

@@ -29,7 +29,7 @@ use Rattle.refusals.specs.declared.Refusal.TheVariants.{Capture, CutRecord}
 use Rattle.refusals.specs.declared.Refused.{Refused}
 use Rattle.text.specs.Text.{text_refusal, readable, words_of}
 use Rattle.captures.specs.Files.{file_header, record_header, order_of, linked, headed, captured, record_bytes, cut}
-use Rattle.captures.specs.Replay.{next_count, short, long, tallied, tally_room, replay_of, records_from, records, replayed, replayed_by, text_replayed}
+use Rattle.captures.specs.Replay.{next_count, short, long, tallied, tally_room, numbered, replay_of, records_from, records, replayed, replayed_by, text_replayed}
 use Rattle.captures.specs.Parts.{amid, Paused, paused, passes, halted, records_to, within, ran, went_on_by, went_on, ending, begun_with, begun_by, fed, finished, played_by, played, joined}
 use Rattle.captures.specs.inner.Steps.{opened}
 use Rattle.captures.specs.laws.Words.{opened_within, captured_within, passes_within, tallied_header, tallied_whole}
@@ -38,6 +38,7 @@ use Rattle.captures.specs.laws.Turns.{passes_so, cut_not, stays, turn, within_no
 use Rattle.captures.specs.declared.Stand.{Stand}
 use Rattle.captures.specs.declared.Stand.TheVariants.{Start, Within, Refusing}
 use Rattle.captures.specs.declared.Order.{Order}
+use Rattle.captures.specs.declared.Numbered.{Numbered}
 use Rattle.captures.specs.declared.Ready.{Ready}
 
 -- A record that passes has its header there, and is short or long.
@@ -122,7 +123,7 @@ module _ (fs : List Filter) where
       ∙ within_none fs o k ts (drop skip s ++ later)
       ∙ records_on (length (drop skip s)) o k ts (drop skip s) later (omega arith))
 
-  opened_on : (ts s later : List ℕ) (b : Bool) (o : Order) → ran fs (cond b (amid o 0 0) (Refusing (unplaced Capture))) ts (s ++ later) ≡ onward (ran fs (cond b (amid o 0 0) (Refusing (unplaced Capture))) ts s) later
+  opened_on : (ts s later : List ℕ) (b : Bool) (o : Order) → ran fs (cond b (amid o 0 0) (Refusing (numbered (unplaced Capture)))) ts (s ++ later) ≡ onward (ran fs (cond b (amid o 0 0) (Refusing (numbered (unplaced Capture)))) ts s) later
   unfolding ran
   opened_on ts s later true o = within_on o 0 0 ts s later
   opened_on ts s later false o = refl
@@ -156,20 +157,20 @@ module _ (fs : List Filter) where
     unfolding finished ending
     none_left e = rw (eq-eqb (length s) 0 e)
 
-    some_left : 0 < length s → finished (paused (amid o 0 k) ts s) ≡ replay_of (Err (refused CutRecord (next_count k))) ts
+    some_left : 0 < length s → finished (paused (amid o 0 k) ts s) ≡ replay_of (Err (numbered (refused CutRecord (next_count k)))) ts
     unfolding finished ending
     some_left h = rw (ne_eqb (length s) 0 (λ (e : length s ≡ 0). omega (arith, h, e)))
 
-    passed_left : (ts' : List ℕ) → cut o s ≡ true → finished (paused (amid o (record_bytes o s - length s) (next_count k)) ts' []) ≡ replay_of (Err (refused CutRecord (next_count k))) ts
+    passed_left : (ts' : List ℕ) → cut o s ≡ true → finished (paused (amid o (record_bytes o s - length s) (next_count k)) ts' []) ≡ replay_of (Err (numbered (refused CutRecord (next_count k)))) ts
     unfolding finished ending replay_of
     passed_left ts' c =
         let less = cut_true o s c in
         rw (ne_eqb (record_bytes o s - length s) 0 (λ (e : record_bytes o s - length s ≡ 0). omega (arith, less, e)))
 
-    halts_end : 0 < length s → cut o s ≡ true → finished (halted fs o k ts s) ≡ replay_of (Err (refused CutRecord (next_count k))) ts
+    halts_end : 0 < length s → cut o s ≡ true → finished (halted fs o k ts s) ≡ replay_of (Err (numbered (refused CutRecord (next_count k)))) ts
     unfolding halted
     halts_end h c =
-        by_cond (λ (p : Paused). finished p ≡ replay_of (Err (refused CutRecord (next_count k))) ts) (passes o s) (λ _. passed_left (tallied fs o s ts) c) (λ _. some_left h)
+        by_cond (λ (p : Paused). finished p ≡ replay_of (Err (numbered (refused CutRecord (next_count k)))) ts) (passes o s) (λ _. passed_left (tallied fs o s ts) c) (λ _. some_left h)
 
   records_end : (n : ℕ) (o : Order) (k : ℕ) (ts s : List ℕ) → length s ≤ n → finished (records_to n fs o k ts s) ≡ records_from n fs o k ts s
   unfolding records_to records_from
@@ -183,18 +184,18 @@ module _ (fs : List Filter) where
       (λ c. rw c (halts_end o k ts bytes (omega arith) c))
       (λ c. rw c (records_end n o (next_count k) (tallied fs o bytes ts) rest (omega (arith, less, h))))
 
-  refused_start : (ts s : List ℕ) → finished (paused Start ts s) ≡ replay_of (Err (unplaced Capture)) []
+  refused_start : (ts s : List ℕ) → finished (paused Start ts s) ≡ replay_of (Err (numbered (unplaced Capture))) []
   unfolding finished ending replay_of
   refused_start ts s = refl
 
   linked_end : (ts s : List ℕ) (b : Bool) → file_header ≤ length s →
-      finished (cond b (within fs (order_of s) file_header 0 ts s) (paused (Refusing (unplaced Capture)) ts [])) ≡
-      cond b (records fs (order_of s) 0 ts (drop file_header s)) (replay_of (Err (unplaced Capture)) [])
+      finished (cond b (within fs (order_of s) file_header 0 ts s) (paused (Refusing (numbered (unplaced Capture))) ts [])) ≡
+      cond b (records fs (order_of s) 0 ts (drop file_header s)) (replay_of (Err (numbered (unplaced Capture))) [])
   unfolding within records finished ending replay_of
   linked_end ts s true h = rw (le-ltb (length s) file_header h) (records_end (length (drop file_header s)) (order_of s) 0 ts (drop file_header s) (omega arith))
   linked_end ts s false h = refl
 
-  start_end : (ts s : List ℕ) → finished (ran fs Start ts s) ≡ cond (headed s) (records fs (order_of s) 0 ts (drop file_header s)) (replay_of (Err (unplaced Capture)) [])
+  start_end : (ts s : List ℕ) → finished (ran fs Start ts s) ≡ cond (headed s) (records fs (order_of s) 0 ts (drop file_header s)) (replay_of (Err (numbered (unplaced Capture))) [])
   unfolding ran headed
   start_end ts s =
       by_test _ (ltb (length s) file_header)
@@ -207,7 +208,7 @@ module _ (fs : List Filter) where
   ran_whole s = start_end (replicate (tally_room (length fs)) 0) s
 
   -- Once refused, whatever follows is not looked at.
-  pub refused_stays : (s later : List ℕ) (r : Refused ℕ) → (ran fs Start (replicate (tally_room (length fs)) 0) s).stand ≡ Refusing r → replayed fs (s ++ later) ≡ replay_of (Err r) []
+  pub refused_stays : (s later : List ℕ) (r : Numbered) → (ran fs Start (replicate (tally_room (length fs)) 0) s).stand ≡ Refusing r → replayed fs (s ++ later) ≡ replay_of (Err r) []
   unfolding finished ending replay_of
   refused_stays s later r e =
       let p = ran fs Start (replicate (tally_room (length fs)) 0) s in

@@ -17,7 +17,7 @@ pub slice_bounds-tallies-end-in-Ok : goal.slice_bounds-tallies-end-in-Ok
 slice_bounds-tallies-end-in-Ok g c = sym (length-take-le _ _ (tallies_fit _ _ _ _ c.in-Ok.ensures.0 c.in-Ok.ensures.1 _ refl _ c.requires))
 
 pub returns-in-Err : goal.returns-in-Err
-returns-in-Err g c = (omega arith, refused_text _ _ _ _ c.in-Err.ensures.0 c.in-Err.ensures.1 _ refl)
+returns-in-Err g c = (omega arith, rw c.into.ensures (refused_text _ _ _ _ c.in-Err.ensures.0 c.in-Err.ensures.1 _ refl))
 
 pub returns-in_ok-answer-in-Ok : goal.returns-in_ok-answer-in-Ok
 returns-in_ok-answer-in-Ok g c =

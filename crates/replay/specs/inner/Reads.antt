@@ -4,16 +4,16 @@
 --   TextAnswers   if no read failed: they are what the text of a list and some file come to, and the tallies stand at the front of the counts
 use Rattle.std.specs.Prelude.{ℕ, ◌≤◌, ◌≡◌, List, [], length, take, Result, IfOk}
 use Rattle.lists.specs.Filters.{max_filters}
-use Rattle.refusals.specs.declared.Refused.{Refused}
 use Rattle.captures.specs.Replay.{tally_room, replay_of, text_replayed}
 use Rattle.captures.specs.Parts.{paused, fed, finished}
+use Rattle.captures.specs.declared.Numbered.{Numbered}
 use Rattle.captures.specs.declared.Stand.TheVariants.{Start}
 use Rattle.replay.specs.declared.Ended.{Ended}
 
 abbrev pub all_tallies : ℕ
 all_tallies = tally_room max_filters
 
-abbrev pub Answers : {E : Type 0} → List ℕ → List ℕ → Result (Result ℕ (Refused ℕ)) E → List ℕ → Type 0
+abbrev pub Answers : {E : Type 0} → List ℕ → List ℕ → Result (Result ℕ Numbered) E → List ℕ → Type 0
 Answers l ts r ts' = IfOk r (λ answer. (parts : List (List ℕ)) × (replay_of answer ts' ≡ finished (fed l (paused Start ts []) parts)))
 
 abbrev pub TextAnswers : {E : Type 0} → List ℕ → Result Ended E → List ℕ → Type 0
