@@ -6,10 +6,14 @@
 --   rest_start, rest_next, rest_end   a loop over an accepted list: its start, its turn, its end
 --   rest_below, rest_sound            while words are left a filter follows, and it has no fault
 --   rest_filter                       the filters that are left: the one that the words begin with, and the rest
+--   At ws n i at      the words ws are an accepted list of n filters, and filter i begins at the place at, or the list ends there
+--   Here ws at        a filter begins there: its words are in the list, and its tests are few
+--   at_start, at_next, at_end         the same loop by places: its start, its turn, its end
+--   sound_here, at_here, at_rest      what it may read there, and the filters that it still has before it
 use Rattle.std.specs.Prelude.{ℕ, zero, suc, ◌+◌, ◌-◌, ◌≤◌, ◌<◌, ◌≡◌, refl, List, [], ◌∷◌, length, drop, Ok, Err}
-use Rattle.std.proofs.Common.{not-suc-le-zero, arith, sym, ap, ◌∙◌, drop-drop}
+use Rattle.std.proofs.Common.{not-suc-le-zero, zero-lt-suc, arith, sym, ap, ◌∙◌, length-drop, drop-drop}
 use Rattle.lists.specs.declared.Counts.{Counts}
-use Rattle.lists.specs.Filters.{max_filters, count_word, filter_words, Filter, filter_of, filters_from, filters_of}
+use Rattle.lists.specs.Filters.{max_filters, max_tests, head_words, count_word, filter_words, Filter, filter_of, filters_from, filters_of}
 use Rattle.refusals.specs.declared.Refusal.TheVariants.{ManyFilters}
 use Rattle.refusals.specs.declared.Refused.{Refused}
 use Rattle.refusals.specs.Numbers.{refused}
@@ -147,3 +151,55 @@ module _ (ws : List ℕ) (n i : ℕ) (r : List ℕ) (here : Rest ws n i r) where
     accepted_done (max_filters - i) i here.accepted.0 n here.accepted.1 (ap (listed_from (max_filters - i) i here.accepted.0) (sym e) ∙ here.accepted.2),
     sym here.filters ∙ ap (filters_from (max_filters - i)) e ∙ filters_none (max_filters - i),
   )
+
+-- ---- the same by places
+
+pub record Here (ws : List ℕ) (at : ℕ) : Type 0 where
+  pub head : at + head_words ≤ length ws
+  pub count : count_word (drop at ws) ≤ max_tests
+  pub whole : at + filter_words (drop at ws) ≤ length ws
+
+-- A filter without a fault, of which the words from a place on begin with one.
+pub sound_here : (ws : List ℕ) (at : ℕ) → NoFault (drop at ws) → Here ws at
+sound_here ws at s =
+    let l = length-drop at ws in
+    record { head = omega (arith, l, s.head); count = s.count; whole = omega (arith, l, s.head, s.whole) }
+
+pub record At (ws : List ℕ) (n i at : ℕ) : Type 0 where
+  pub accepted : (t : ℕ) × (b : ℕ) × (listed_from (max_filters - i) i t (drop at ws) ≡ Ok (counts n b))
+  pub rest : filters_from (max_filters - i) (drop at ws) ≡ drop i (filters_of ws)
+
+pub at_start : (ws : List ℕ) (n t : ℕ) → listed ws ≡ Ok (counts n t) → At ws n 0 0
+at_start ws n t e = let r = rest_start ws n t e in record { accepted = r.accepted; rest = r.filters }
+
+-- Words are left exactly while filters are still to come.
+module _ (ws : List ℕ) (n i at : ℕ) (here : At ws n i at) where
+  left : Rest ws n i (drop at ws)
+  left = record { accepted = here.accepted; filters = here.rest }
+
+  some_left : (r : List ℕ) → Rest ws n i r → i < n → 0 < length r
+  some_left [] l h = absurd (omega (arith, (rest_end ws n i [] l refl).0))
+  some_left (w ∷ r) l h = zero-lt-suc (length r)
+
+  none_left : (r : List ℕ) → Rest ws n i r → n ≤ i → r ≡ []
+  none_left [] l h = refl
+  none_left (w ∷ r) l h = absurd (omega (arith, rest_below ws n i (w ∷ r) l (zero-lt-suc (length r))))
+
+  module _ (h : i < n) where
+    more : 0 < length (drop at ws)
+    more = some_left (drop at ws) left h
+
+    pub at_here : Here ws at
+    at_here = sound_here ws at (rest_sound ws n i (drop at ws) left more)
+
+    pub at_next : At ws n (i + 1) (at + filter_words (drop at ws))
+    at_next =
+        let next : Rest ws n (i + 1) (drop (at + filter_words (drop at ws)) ws) =
+        rw (← drop-drop (filter_words (drop at ws)) at ws) (rest_next ws n i (drop at ws) left more) in
+        record { accepted = next.accepted; rest = next.filters }
+
+    pub at_rest : drop i (filters_of ws) ≡ filter_of (drop at ws) ∷ drop (i + 1) (filters_of ws)
+    at_rest = rest_filter ws n i (drop at ws) left more
+
+  pub at_end : n ≤ i → drop i (filters_of ws) ≡ []
+  at_end l = (rest_end ws n i (drop at ws) left (none_left (drop at ws) left l)).1
