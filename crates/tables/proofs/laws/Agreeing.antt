@@ -6,9 +6,11 @@
 --   agreeing_here, agreeing_on, agreeing_end   whether the next record agrees decides; where there is no more, none
 --   First, agreeing_first   it is one of those looked at, agrees, and none before it does
 --   agreeing_none   where there is none, none of those looked at agrees
+--   agreeing_in     the first record that agrees lies among those looked at
+--   agreeing_over   none before it agrees, or none at all where there is none
 use Prim.Native.Nat.{ℕ, zero, suc, ◌+◌, ◌≤◌, ◌<◌}
 use native.Mathlib.Omega.{arith}
-use Rattle.std.specs.Prelude.{◌≡◌, List, ◌&&◌, get_or, set, None, Some}
+use Rattle.std.specs.Prelude.{◌≡◌, List, ◌&&◌, get_or, set, Option, None, Some, IfSome, unwrap_or}
 use Rattle.std.specs.List.{find, range_with_len}
 use Rattle.std.proofs.Math.Path.{refl, subst, ap}
 use Rattle.std.proofs.Common.{sym, ◌∙◌, lit<, get_or-set_other}
@@ -141,3 +143,17 @@ module _ (t f : List ℕ) where
       by_test (agree (record_at t j) f ≡ false) (agree (record_at t n) f)
       (λ h. let found : Some n ≡ None = sym (agreeing_here k n h) ∙ e in absurd cc)
       (λ h. each_from n j (λ m. agree (record_at t m) f ≡ false) low h (λ behind. agreeing_none k (n + 1) (sym (agreeing_on k n h) ∙ e) j behind (omega arith)))
+
+  pub agreeing_in : (k n : ℕ) → IfSome (agreeing_from k n t f) (λ i. (n ≤ i) × (i < n + k))
+  agreeing_in k n = go (agreeing_from k n t f) refl
+    where
+      go : (o : Option ℕ) → agreeing_from k n t f ≡ o → IfSome o (λ i. (n ≤ i) × (i < n + k))
+      go None e = tt
+      go (Some i) e = let first = agreeing_first k n i e in (first.from, first.below)
+
+  pub agreeing_over : (k n j : ℕ) → n ≤ j → j < unwrap_or (agreeing_from k n t f) (n + k) → agree (record_at t j) f ≡ false
+  agreeing_over k n j low = go (agreeing_from k n t f) refl
+    where
+      go : (o : Option ℕ) → agreeing_from k n t f ≡ o → j < unwrap_or o (n + k) → agree (record_at t j) f ≡ false
+      go None e high = agreeing_none k n e j low high
+      go (Some i) e high = let first = agreeing_first k n i e in first.over j low high
