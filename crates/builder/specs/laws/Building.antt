@@ -113,6 +113,10 @@ module _ {n : ℕ} {ranks : List ℕ} {fs : List Filter} {t s t' s' : List ℕ} 
       let same : by_room fs t s ≡ no_room t s = rw (enough t s hs, lt-ltb (slots_of t) (length (states_of fs)) (more came)) in
       rw same (record { answer = refl; table = cleared_table came; scratch = cleared_scratch None came })
 
+-- A number of states is no refusal.
+pub states_unrefused : (n : ℕ) (r : Refused ℕ) → ◌≡◌ {A = Built} (Ok n) (Err r) → ⊥
+states_unrefused n r e = cc
+
 -- The outcome goes by what reading the list comes to.
 pub answered_refused : (l t s : List ℕ) {r : Refused ℕ} → listed l ≡ Err r → Answered (outcome l t s) (Err r) t s
 unfolding outcome outcome_by refused

@@ -13,7 +13,7 @@ use Rattle.residue.specs.declared.Outcome.{Outcome}
 use Rattle.residue.specs.declared.Outcome.TheVariants as O
 use Rattle.sets.specs.laws.Members.{length_tally, get_or_tally}
 use Rattle.words.specs.laws.Lending.{later, earlier}
-use Rattle.tables.specs.Tables.{record_words}
+use Rattle.tables.specs.Tables.{record_words, max_slots}
 use Rattle.tables.specs.inner.Records.{with_next}
 use Rattle.tables.proofs.laws.Changes.{next_behind}
 use Rattle.slots.specs.Words.{slot_words}
@@ -40,6 +40,24 @@ memory_linked n ranks used at v o t s h =
 pub length_states : (n used : ℕ) (s : List ℕ) → length (states_in n used s) ≡ used
 unfolding states_in
 length_states n used s = length_tally used (λ i. slot_at n s i)
+
+-- The sizes that placing asks of the list, its ranks and the rooms, beside what is ready.
+pub record Sized (n slots : ℕ) (ranks t s : List ℕ) : Type 0 where
+  pub filters : n ≤ max_filters
+  pub ranked : length ranks ≡ max_filters
+  pub few : slots ≤ max_slots
+  pub tabled : record_words * slots ≤ length t
+  pub scratched : slot_words * slots ≤ length s
+
+sized_on : {n slots : ℕ} {ranks t s t' s' : List ℕ} → length t' ≡ length t → length s' ≡ length s → Sized n slots ranks t s → Sized n slots ranks t' s'
+sized_on lt ls z =
+    record {
+      filters = z.filters;
+      ranked = z.ranked;
+      few = z.few;
+      tabled = rw lt z.tabled;
+      scratched = rw ls z.scratched;
+    }
 
 module _ {n slots : ℕ} {ranks : List ℕ} {at used : ℕ} (o : Outcome) {t s : List ℕ} (ready : Ready n slots ranks at used t s) where
   abbrev pub stepped : List ℕ
@@ -69,6 +87,9 @@ module _ {n slots : ℕ} {ranks : List ℕ} {at used : ℕ} (o : Outcome) {t s :
         kept = refl;
         beyond = refl;
       }
+
+  pub old_below : {i : ℕ} {t' s' : List ℕ} → Meeting n slots ranks used t s stepped (Some (M.Old i)) t' s' → i < used
+  old_below met = met.2
 
   pub placed_old : {i : ℕ} {t' s' t'' : List ℕ} → Meeting n slots ranks used t s stepped (Some (M.Old i)) t' s' → t'' ≡ with_next at o i t' → WayLeaves (Some used) t'' s'
   placed_old {i} met e = rw (e, met.3, met.4) (linked_old i met.0 met.1)
@@ -102,6 +123,9 @@ module _ {n slots : ℕ} {ranks : List ℕ} {at used : ℕ} (o : Outcome) {t s :
     -- The new state's record tells of it, its ways may be built, and fewer tests remain in it.
     pub told_new : Told (slots_in n ranks) (memory_of n ranks (used + 1) t₁ s₁)
     told_new = rw meeting.2 (told_stored (slots_in n ranks) stepped (memory_of n ranks used t s) ready.told)
+
+    pub ready_new : Sized n slots ranks t s → length t₁ ≡ length t → length s₁ ≡ length s → Sized n slots ranks t₁ s₁ × Ready n slots ranks used (used + 1) t₁ s₁
+    ready_new sizes lt ls = (sized_on lt ls sizes, record { inside = omega arith; within = omega (arith, meeting.1); told = told_new })
 
     pub good_new : GoodWords n ranks (slot_at n s₁ used)
     good_new = rw slot_new (words_step o asking.good asking.asks)
@@ -178,6 +202,19 @@ module _ {n slots : ℕ} {ranks : List ℕ} {at used : ℕ} (o : Outcome) {t s :
     pub placed_new : {u : ℕ} {t₂ s₂ t₃ : List ℕ} → Building (Some u) t₂ s₂ → t₃ ≡ with_next at o used t₂ → WayLeaves (Some u) t₃ s₂
     placed_new {u} {t₂} {s₂} b q = rw q (linked_new u t₂ s₂ b)
 
+-- A state lies in slot `at`.
+pub record Held (n at : ℕ) (s : List ℕ) : Type 0 where
+  pub filters : n ≤ max_filters
+  pub slotted : slot_words * (at + 1) ≤ length s
+
+-- A state lies in the slot whose ways are built.
+pub held : {n slots : ℕ} {ranks : List ℕ} {at used : ℕ} {t s : List ℕ} → Sized n slots ranks t s → Ready n slots ranks at used t s → Held n at s
+held sizes r = record { filters = sizes.filters; slotted = omega arith }
+
+-- The state's record lies in the table.
+pub record_within : {n slots : ℕ} {ranks : List ℕ} {at used : ℕ} {t s : List ℕ} → Sized n slots ranks t s → Ready n slots ranks at used t s → record_words * (at + 1) ≤ length t
+record_within sizes r = omega arith
+
 -- The ways of a state, from what the way builder promises of each.
 module _ {n slots : ℕ} {ranks : List ℕ} {at used : ℕ} {t s : List ℕ} (few : n ≤ max_filters) (ready : Ready n slots ranks at used t s) where
   abbrev StateLeaves : Option ℕ → List ℕ → List ℕ → Type 0
@@ -185,6 +222,11 @@ module _ {n slots : ℕ} {ranks : List ℕ} {at used : ℕ} {t s : List ℕ} (fe
 
   abbrev ways : ℕ → Placement (slots_in n ranks)
   ways left = place_state (slots_in n ranks) slots left at (slot_at n s at) (memory_of n ranks used t s)
+
+  -- What is ready stays so with more slots used.
+  ready_on : {u : ℕ} {t' s' : List ℕ} → used ≤ u → u ≤ slots → length t' ≡ length t → length s' ≡ length s → Told (slots_in n ranks) (memory_of n ranks u t' s')
+      → Sized n slots ranks t s → Sized n slots ranks t' s' × Ready n slots ranks at u t' s'
+  ready_on more fits lt ls told sizes = (sized_on lt ls sizes, record { inside = omega arith; within = fits; told = told })
 
   pub none_asked : asks_in n (slot_at n s at) ≡ false → StateLeaves (Some used) t s
   unfolding out_of
@@ -242,6 +284,9 @@ module _ {n slots : ℕ} {ranks : List ℕ} {at used : ℕ} {t s : List ℕ} (fe
       pub told_second : Told (slots_in n ranks) (memory_of n ranks u₁ t₁ s₁)
       told_second = told_on O.Holds used u₁ t s t₁ s₁ refl ready.told a
 
+      pub ready_second : Sized n slots ranks t s → length t₁ ≡ length t → length s₁ ≡ length s → Sized n slots ranks t₁ s₁ × Ready n slots ranks at u₁ t₁ s₁
+      ready_second sizes lt ls = ready_on a.grows.0 a.grows.1 lt ls told_second sizes
+
       pub slot_first : slot_at n s₁ at ≡ slot_at n s at
       slot_first = slot_kept n used at s s₁ few ready.inside a.kept
 
@@ -267,6 +312,9 @@ module _ {n slots : ℕ} {ranks : List ℕ} {at used : ℕ} {t s : List ℕ} (fe
       module _ {u₂ : ℕ} {t₂ s₂ : List ℕ} (b : Way O.Fails u₁ t₁ s₁ (Some u₂) t₂ s₂) where
         pub told_third : Told (slots_in n ranks) (memory_of n ranks u₂ t₂ s₂)
         told_third = told_on O.Fails u₁ u₂ t₁ s₁ t₂ s₂ slot_first told_second b
+
+        pub ready_third : Sized n slots ranks t s → length t₂ ≡ length t → length s₂ ≡ length s → Sized n slots ranks t₂ s₂ × Ready n slots ranks at u₂ t₂ s₂
+        ready_third sizes lt ls = ready_on (omega (arith, a.grows.0, b.grows.0)) b.grows.1 lt ls told_third sizes
 
         pub slot_second : slot_at n s₂ at ≡ slot_at n s at
         slot_second =
@@ -312,5 +360,8 @@ module _ {n slots : ℕ} {ranks : List ℕ} {at used : ℕ} {t s : List ℕ} (fe
             }
 
 -- A later way finds the words of its state as they were: they still ask, and the way's measure is below the state's.
+pub asking_on : (n : ℕ) (ranks : List ℕ) {w w' : List ℕ} → w' ≡ w → Asking n ranks w → Asking n ranks w'
+asking_on n ranks e a = rw e a
+
 pub way_less : (n : ℕ) {w w' : List ℕ} → w' ≡ w → 2 * tests_left n w' < 2 * tests_left n w + 1
 way_less n e = rw e (omega arith)
