@@ -1,16 +1,16 @@
 // A run of words is a list of filters, or refused (document 01, "Tests, filters, ranks" and refusals 1 to 9).
 #![tactic(auto)]
 
-ghost use Rattle.std.specs.Prelude.{◌≡◌, ℕ, Bool, cond, not, ◌+◌, ◌*◌, ◌≤◌, ◌<◌, eqb, length, get_or, drop};
+ghost use Rattle.std.specs.Prelude.{◌≡◌, ℕ, Bool, cond, not, ◌+◌, ◌-◌, ◌*◌, ◌≤◌, ◌<◌, eqb, length, get_or, drop};
 ghost use Rattle.sets.specs.Sets.{set_of, tally};
 ghost use Rattle.lists.specs.Filters.{max_filters, head_words, test_words, count_word, test_of, filter_of, filters_of};
 ghost use Rattle.lists.specs.Words.{words_of};
 ghost use Rattle.lists.specs.Refusals.{masked, test_fault, tests_fault, filter_fault, listed};
-ghost use Rattle.lists.specs.Ranks.{rank_sets};
+ghost use Rattle.lists.specs.Ranks.{outranks, rank_sets};
 ghost use Rattle.lists.specs.inner.Columns.{rank_set_by};
 ghost use Rattle.lists.specs.Columns.{rank_of, no_rank, Heads, above_by};
 ghost use Rattle.std.specs.Iterator.{at_most};
-ghost use Rattle.lists.specs.Walk.{GivesFilter};
+ghost use Rattle.lists.specs.Walk.{left_in, GivesFilter};
 
 use refusals::{Refusal, Refused};
 use residue::Test;
@@ -216,25 +216,37 @@ fn check_filter(words: &[u32]) -> Result<(), Refusal>
     check_tests(&words[HEAD_WORDS..], count)
 }
 
-// The filters of a list, one after the other: each as the words from its first one on. A filter that is cut is the last.
+// The filters of a list, one after the other: each as the words from its first one on. A filter that is cut is the last. It goes by the
+// place of the next one: of words that are cut off the front each time the length too waits for the filter before.
 #[derive(Clone, Copy, Drop)]
-pub struct Filters<'a>(pub &'a [u32]);
+pub struct Filters<'a> {
+    pub list: &'a [u32],
+    pub at: usize,
+}
+
+impl<'a> Filters<'a> {
+    // All filters of a list.
+    pub fn new(list: &'a [u32]) -> Filters<'a>
+        ensures { left_in result ≡ list.now }
+    {
+        Filters { list, at: 0 }
+    }
+}
 
 impl<'a> Iterator for Filters<'a> {
     type Item = &'a [u32];
 
     ghost next_gives = { GivesFilter };
 
-    ghost remaining = { λ s. at_most (length s.0.now) };
+    ghost remaining = { λ s. at_most (length s.list.now - s.at) };
 
     fn next(&mut self) -> Option<&'a [u32]> {
-        let words = self.0;
-        if words.is_empty() {
+        let at = self.at;
+        if self.list.len() <= at {
             return None;
         }
-        let behind = filter_words(count_at(words, 0));
-        self.0 = &words[behind.min(words.len())..];
-        Some(words)
+        self.at = at + filter_words(count_at(self.list, at));
+        Some(&self.list[at..])
     }
 }
 
@@ -278,6 +290,16 @@ impl Rank {
             level: word_at(words, LEVEL_AT),
         }
     }
+
+    // Whether filter j, which has this rank, ranks above filter i, which has the other: never in group 0, where each is on its own.
+    #[tactic(auto, unfolding(crate::specs::Ranks::outranks))]
+    pub fn is_above(self, j: usize, other: Rank, i: usize) -> bool
+        ensures { result ≡ outranks self.group self.level j other.group other.level i }
+    {
+        (self.group != 0)
+            & (self.group == other.group)
+            & ((other.level < self.level) | ((self.level == other.level) & (j < i)))
+    }
 }
 
 // Writes the ranks of the list's filters, and says how many there are.
@@ -285,7 +307,7 @@ pub fn heads(list: &[u32], ranks: &mut [Rank; MAX_FILTERS]) -> usize
     ensures { Heads (filters_of list.now) result ranks.new }
 {
     let mut n: usize = 0;
-    for words in Filters(list).take(MAX_FILTERS) {
+    for words in Filters::new(list).take(MAX_FILTERS) {
         ranks[n] = Rank::of(words);
         n += 1;
     }
@@ -299,16 +321,12 @@ fn rank_at(ranks: &[Rank], i: usize) -> Rank
     ranks.get(i).copied().unwrap_or(NO_RANK)
 }
 
-// Whether filter j ranks above filter i: never in group 0, where each is on its own.
-#[tactic(auto, unfolding(crate::specs::Columns::above_by, crate::specs::Ranks::outranks))]
+// Whether filter j ranks above filter i, by a column of any length.
+#[tactic(auto, unfolding(crate::specs::Columns::above_by))]
 pub fn ranks_above(ranks: &[Rank], j: usize, i: usize) -> bool
     ensures { result ≡ above_by ranks.now j i }
 {
-    let upper = rank_at(ranks, j);
-    let lower = rank_at(ranks, i);
-    (upper.group != 0)
-        & (upper.group == lower.group)
-        & ((lower.level < upper.level) | ((upper.level == lower.level) & (j < i)))
+    rank_at(ranks, j).is_above(j, rank_at(ranks, i), i)
 }
 
 // The set of those among the first n filters of which the test holds.

@@ -44,23 +44,25 @@ fn fires_set(list: &[u32], header: &Header) -> Set
     ensures { result ≡ set_of (tally (length (filters_of list.now)) (fires (filters_of list.now) (reading_at header.now.present header.now.values))) }
 {
     let mut set: Set = 0;
-    for (i, words) in Filters(list).enumerate() {
+    for (i, words) in Filters::new(list).enumerate() {
         set = sets::put(set, i as u32, all_hold(words, header));
     }
     set
 }
 
-// Whether filter j is in a set and ranks above filter i.
-fn beats(ranks: &[Rank], held: Set, j: usize, i: usize) -> bool
-    requires { j < max_filters }
+// Whether filter j is in a set and ranks above filter i. The column has a rank for each filter that a list can have, so that no place is
+// looked for in it, which each pair of filters would pay for.
+#[tactic(auto, unfolding(lists::specs::Columns::above_by))]
+fn beats(ranks: &[Rank; MAX_FILTERS], held: Set, j: usize, i: usize) -> bool
+    requires { (j < max_filters) × (i < max_filters) }
     ensures { result ≡ (above_by ranks.now j i && member j held) }
 {
-    sets::has(held, j as u32) && lists::ranks_above(ranks, j, i)
+    sets::has(held, j as u32) && ranks[j].is_above(j, ranks[i], i)
 }
 
 // Whether any of the first n filters does.
-fn beaten(ranks: &[Rank], n: usize, held: Set, i: usize) -> bool
-    requires { n ≤ max_filters }
+fn beaten(ranks: &[Rank; MAX_FILTERS], n: usize, held: Set, i: usize) -> bool
+    requires { (n ≤ max_filters) × (i < max_filters) }
     ensures { result ≡ beaten_by ranks.now n held i }
 {
     (0..n).any(|j| beats(ranks, held, j, i))
@@ -68,7 +70,7 @@ fn beaten(ranks: &[Rank], n: usize, held: Set, i: usize) -> bool
 
 // Whether filter i is in a set and none of the set ranks above it. Ranks are looked at for the few in the set alone.
 #[tactic(auto, unfolding(crate::specs::inner::Standing::stands_by))]
-fn stands(ranks: &[Rank], n: usize, held: Set, i: usize) -> bool
+fn stands(ranks: &[Rank; MAX_FILTERS], n: usize, held: Set, i: usize) -> bool
     requires { (n ≤ max_filters) × (i < max_filters) }
     ensures { result ≡ stands_by ranks.now n held i }
 {

@@ -186,7 +186,7 @@ fn fill_all(list: &[u32], dst: &mut [u32])
     ensures { dst.new ≡ written (map all_left (filters_of list.now)) }
 {
     // Written by index: of a slice that chunks_exact_mut lent a proof knows the length alone.
-    for (i, words) in Filters(list).enumerate() {
+    for (i, words) in Filters::new(list).enumerate() {
         let end = lists::filter_words(lists::count_at(words, 0));
         let at = FILTER_WORDS * i;
         filter::fill(&words[HEAD_WORDS..end], &mut dst[at..at + FILTER_WORDS]);

@@ -5,7 +5,7 @@ use Rattle.lists.proofs.heads.Goals as goal
 pub loop-words-init : goal.loop-words-init
 loop-words-init c =
     rw (c.into_iter-words-iterator.ensures.into_iter_gives, c.take-words-items.ensures.source)
-    (omega (arith, c.take-words-items.ensures.count), partway_start c.args.list.now c.args.ranks.now c.told-ranks)
+    (omega (arith, c.take-words-items.ensures.count), rw c.new.ensures (partway_start c.args.list.now c.args.ranks.now c.told-ranks))
 
 pub loop-words-preserved : goal.loop-words-preserved
 loop-words-preserved c =

@@ -14,7 +14,7 @@ pub loop-i-init : goal.loop-i-init
 unfolding set_of tally
 loop-i-init c =
     rw (c.into_iter-i-iterator.ensures.into_iter_gives, c.enumerate-i-items.ensures.source, c.enumerate-i-items.ensures.count)
-    (record { rest = scan_start c.args.list.now c.requires.0 c.requires.1; fired = refl })
+    (record { rest = rw c.new.ensures (scan_start c.args.list.now c.requires.0 c.requires.1); fired = refl })
 
 pub all_hold-requires : goal.all_hold-requires
 all_hold-requires c =

@@ -21,7 +21,7 @@ sound c = let s = c.in-Some.ensures.steps in rw s.0.1 (rest_sound c.args.list.no
 pub loop-i-init : goal.loop-i-init
 loop-i-init c =
     rw (c.into_iter-i-iterator.ensures.into_iter_gives, c.enumerate-i-items.ensures.source, c.enumerate-i-items.ensures.count)
-    (record { rest = rest_start c.args.list.now _ c.requires.accepted.0 c.requires.accepted.1; whole = refl })
+    (record { rest = rw c.new.ensures (rest_start c.args.list.now _ c.requires.accepted.0 c.requires.accepted.1); whole = refl })
 
 pub overflow_mul-at : goal.overflow_mul-at
 overflow_mul-at c = omega (arith, more (goal.at.overflow_mul-at c).In-Some)
