@@ -8,6 +8,7 @@ use matcher::Walk;
 use refusals::Refusal;
 
 // Builds the list and walks the frame through what was built. A refusal of either call is the answer; the filter that has a list's fault is not told.
+#[tactic(auto, using(crate::specs::laws::Whole::whole_refused))]
 pub fn build_and_classify(
     list: &[u32],
     table: &mut [u32],

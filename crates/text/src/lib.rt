@@ -67,7 +67,10 @@ fn read_items(text: &[u8], words: &mut [u32]) -> Result<usize, Refusal>
     let mut count = 0;
     let mut place = None;
     for &byte in text {
-        let step = step_by(place, byte)?;
+        // Not by `?`: the refusal is named where it is answered, so that a wrong answer there is refused for what it says.
+        let Ok(step) = step_by(place, byte) else {
+            return Err(Refusal::Text);
+        };
         place = match step {
             Step::Skip => None,
             Step::Digit(value) => Some(value),

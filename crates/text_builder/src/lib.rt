@@ -12,6 +12,9 @@ pub fn build_text(text: &[u8], table: &mut [u32], scratch: &mut [u32]) -> Result
     ensures { Answered (text_outcome text.now table.old scratch.old) result table.new scratch.new }
 {
     let mut words = [0u32; MAX_ITEMS];
-    let count = text::read_words(text, &mut words)?;
-    builder::build(&words[..count], table, scratch)
+    // Not by `?`: each answer has its place, so that a wrong one is refused for what it says.
+    match text::read_words(text, &mut words) {
+        Ok(count) => builder::build(&words[..count], table, scratch),
+        Err(refusal) => Err(refusal.into()),
+    }
 }

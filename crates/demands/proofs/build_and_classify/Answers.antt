@@ -2,7 +2,7 @@
 -- Assumes nothing.
 use native.Mathlib.Omega.{arith}
 use mathlib.Core.Path.{sym, ◌∙◌}
-use Rattle.demands.specs.laws.Whole.{whole_built, whole_refused}
+use Rattle.demands.specs.laws.Whole.{whole_built}
 use Rattle.demands.proofs.build_and_classify.Goals as goal
 
 pub returns-in-Ok : goal.returns-in-Ok
@@ -13,11 +13,5 @@ returns-in-Ok c = record {
       c.classify.ensures
       c.type_inv.frame
       (omega arith);
-  rooms = record { table = c.build.ensures.table; scratch = c.build.ensures.scratch };
-}
-
-pub returns-in-Err : goal.returns-in-Err
-returns-in-Err c = record {
-  whole = whole_refused _ _ _ _ _ _ c.in-Err.refused (sym c.in-Err.is ∙ c.build.ensures.answer);
   rooms = record { table = c.build.ensures.table; scratch = c.build.ensures.scratch };
 }
