@@ -1,5 +1,5 @@
 //! The C header and the C example: compiled against the library and run, by the toolchain's own
-//! compiler and by gcc.
+//! compiler and by gcc; and what the library needs from whoever links it.
 
 use std::path::{Path, PathBuf};
 use std::process::Command;
@@ -23,12 +23,16 @@ field 11 of 24 bytes: cut
 /// Warnings count as errors: the header is read by other people's compilers.
 const FLAGS: [&str; 5] = ["-std=c99", "-Wall", "-Wextra", "-pedantic", "-Werror"];
 
+/// The names that whoever links the library has to bring, and no others.
+const FROM_OUTSIDE: [&str; 2] = ["memcpy", "memset"];
+
 fn main() {
     let mut runner = Runner::new();
     let name = "the_c_example_runs_by_the_toolchains_compiler";
     runner.attempt(name, of_the_toolchain(by_the_toolchain));
     runner.attempt("the_c_example_compiles_and_runs", with_gcc(by_gcc));
     runner.attempt("the_header_stands_alone_in_c_and_cpp", with_gcc(header_alone));
+    runner.attempt("the_library_needs_two_names_from_outside", names_needed);
     runner.finish();
 }
 
@@ -71,6 +75,22 @@ fn by_gcc() {
     let program = made("box_by_gcc");
     run(gcc.arg(archive()).arg("-o").arg(&program));
     prints(&program);
+}
+
+/// The tool nm of some machines reads no file of another processor's.
+fn names_needed() -> Ended {
+    match Command::new("nm").arg("-u").arg(archive()).output() {
+        Ok(output) if output.status.success() => {
+            of_the_toolchain(|| only_those(&String::from_utf8_lossy(&output.stdout)))()
+        }
+        _ => Ended::Skipped("nm is not installed, or does not read the library".to_string()),
+    }
+}
+
+fn only_those(needed: &str) {
+    for name in needed.lines().filter_map(|line| line.trim().strip_prefix("U ")) {
+        assert!(FROM_OUTSIDE.contains(&name), "{name} is needed from outside");
+    }
 }
 
 fn header_alone() {

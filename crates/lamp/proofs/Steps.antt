@@ -3,6 +3,7 @@
 --   Walking fs t m r w k n   the walk has come to record n with k questions; w are the words of its state, and what is left of the walk answers the whole
 --   state_counts             of how many filters the words of a state are
 --   walking_start            so it is at record 0 with the words of the start
+--   copied                   words copied over as many others
 -- A turn with the question q: refused_here, lit_here, dark_here, Asking (there is a question), asking, gone_astray, gone_on.
 -- Assumes nothing.
 use Rattle.std.specs.Prelude.{Option, Ok, Err}
@@ -11,9 +12,10 @@ use native.Mathlib.Nat.{sub-zero}
 use native.Mathlib.Omega.{arith}
 use mathlib.Core.Path.{◌≡◌, sym, ap, ap₂, ◌∙◌}
 use mathlib.Core.Bool.{true, false, not, false≢true, not-not}
-use mathlib.Core.List.{List}
+use mathlib.Core.List.{List, ◌++◌, append-nil}
 use lib.Dec.{eqb}
-use lib.ListN.{length, get_or}
+use lib.ListN.{length, drop, get_or}
+use lib.Seq.{drop-length}
 use borrow.Author.Tests.{eq-eqb, ne_eqb}
 use Rattle.residue.specs.declared.Outcome.{Outcome}
 use Rattle.refusals.specs.declared.Refusal.TheVariants.{Table}
@@ -49,6 +51,13 @@ use Rattle.lamp.specs.declared.Lamp.TheVariants.{Lit, Dark}
 use Rattle.lamp.specs.inner.Records.{record_asks}
 use Rattle.lamp.proofs.laws.Records.{question_test, as_asked, next_word}
 use Rattle.lamp.proofs.laws.Turns.{turn_refused, turn_lit, turn_dark, turn_astray, turn_goes}
+
+-- ---- words copied over as many
+
+pub copied : (a b : List ℕ) → length a ≡ length b → a ++ drop (length a) b ≡ a
+copied a b e = ap (λ (u : List ℕ). a ++ u) (ap (λ (n : ℕ). drop n b) e ∙ drop-length b) ∙ append-nil a
+
+-- ---- the walk
 
 abbrev pub answer : List Filter → List ℕ → ℕ → (ℕ → Option ℕ) → Answer
 answer fs t m r = lamp_from fs t m r (tests_in fs) 0 0 (start fs)

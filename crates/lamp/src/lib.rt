@@ -90,7 +90,7 @@ fn lamp_from(
             return Err(Refusal::Table.into());
         }
         slots::step_by(state, room, ranks, question, way);
-        state.copy_from_slice(room);
+        words::copy_into(state, room);
         asked += 1;
     }
 }

@@ -125,6 +125,6 @@ pub fn fill(tests: &[u32], dst: &mut [u32])
     requires one { length dst.old ≡ filter_slot }
     ensures { dst.new ≡ tests.now ++ replicate (filter_slot - length tests.now) 0 }
 {
-    dst[..tests.len()].copy_from_slice(tests);
+    words::copy_into(dst, tests);
     dst[tests.len()..].fill(0);
 }

@@ -8,7 +8,7 @@ use Rattle.slots.specs.Asking.{filters_in}
 use Rattle.slots.specs.laws.Counting.{whole_state}
 use Rattle.slots.specs.laws.Written.{start_accepted}
 use Rattle.tables.proofs.laws.Layout.{next_within}
-use Rattle.lamp.proofs.Steps.{state_counts, walking_start, refused_here, lit_here, dark_here, Asking, asking, gone_astray, fewer_left, gone_on}
+use Rattle.lamp.proofs.Steps.{copied, state_counts, walking_start, refused_here, lit_here, dark_here, Asking, asking, gone_astray, fewer_left, gone_on}
 use Rattle.lamp.proofs.lamp_from.Goals as goal
 use Rattle.lamp.proofs.lamp_from.Goals.{Else-question-eq0}
 
@@ -82,4 +82,4 @@ loop-record-smaller c = omega (arith, fewer_left (asks_on (goal.at.loop-record-s
 pub loop-record-preserved : goal.loop-record-preserved
 loop-record-preserved c =
     gone_on (asks_on (goal.at.loop-record-preserved c).Else-question-eq0) _ c.way_of-way.ensures _ c.record-record.ensures _ (ap (λ j. get_or c.record-record.result.now j 0) c.next_at.ensures) _ c.requires.ranked c.if-table-at.false _
-    (c.copy_from_slice.ensures.after ∙ c.step_by.ensures)
+    (c.copy_into.ensures ∙ copied _ _ (omega arith) ∙ c.step_by.ensures)
