@@ -4,20 +4,21 @@
 --   agree_parts     it agrees with a fresh one where the sets and the question are those of it
 --   agreeing_find   the first that agrees is what the library's find says
 --   agreeing_here, agreeing_on, agreeing_end   whether the next record agrees decides; where there is no more, none
+--   agreeing_pairs   the search may begin at the first pair with one that agrees
 --   First, agreeing_first   it is one of those looked at, agrees, and none before it does
 --   agreeing_none   where there is none, none of those looked at agrees
 --   agreeing_in     the first record that agrees lies among those looked at
 --   agreeing_over   none before it agrees, or none at all where there is none
-use Prim.Native.Nat.{ℕ, zero, suc, ◌+◌, ◌≤◌, ◌<◌}
+use Prim.Native.Nat.{ℕ, zero, suc, ◌+◌, ◌*◌, ◌-◌, ◌/◌, ◌%◌, ◌≤◌, ◌<◌}
 use native.Mathlib.Omega.{arith}
-use Rattle.std.specs.Prelude.{◌≡◌, List, ◌&&◌, get_or, set, Option, None, Some, IfSome, unwrap_or}
+use Rattle.std.specs.Prelude.{◌≡◌, Bool, List, ◌&&◌, ◌||◌, get_or, set, Option, None, Some, IfSome, unwrap_or}
 use Rattle.std.specs.List.{find, range_with_len}
 use Rattle.std.proofs.Math.Path.{refl, subst, ap}
 use Rattle.std.proofs.Common.{sym, ◌∙◌, lit<, get_or-set_other}
 use Rattle.std.proofs.Math.Bool.{true, false, cond, and_assoc}
 use Rattle.std.proofs.Math.Dec.{eqb}
 use borrow.Author.Tests.{eq-eqb, eqb-true, eqb-false}
-use Rattle.residue.specs.laws.Choice.{by_test}
+use Rattle.residue.specs.laws.Choice.{by_test, neither}
 use Rattle.residue.specs.declared.Outcome.{Outcome}
 use Rattle.residue.specs.declared.Outcome.TheVariants.{Holds, Fails, Absent}
 use Rattle.lists.specs.Filters.{kind_at, field_at, mask_at, value_at}
@@ -108,6 +109,54 @@ module _ (t f : List ℕ) where
   pub agreeing_end : (n : ℕ) → agreeing_from 0 n t f ≡ None
   unfolding agreeing_from
   agreeing_end n = refl
+
+  -- One of two records that follow one another agrees.
+  abbrev pub in_pair : ℕ → Bool
+  in_pair n = agree (record_at t n) f || agree (record_at t (n + 1)) f
+
+  -- The search may begin at the first pair with one that agrees, or behind the pairs where none has.
+  pairs_from :
+      (n r k a p : ℕ) →
+      unwrap_or (find (λ i. in_pair (n + 2 * i)) (range_with_len a k)) (a + k) ≡ p →
+      (p ≤ a + k) × (agreeing_from (2 * k + r) (n + 2 * a) t f ≡ agreeing_from (2 * (a + k - p) + r) (n + 2 * p) t f)
+  pairs_from n r zero a p e =
+      let more : 2 * 0 + r ≡ 2 * (a + 0 - p) + r = omega arith in
+      let at : n + 2 * a ≡ n + 2 * p = omega arith in
+      (omega arith, cc)
+  pairs_from n r (suc k) a p e =
+      by_test ((p ≤ a + suc k) × (agreeing_from (2 * suc k + r) (n + 2 * a) t f ≡ agreeing_from (2 * (a + suc k - p) + r) (n + 2 * p) t f)) (in_pair (n + 2 * a))
+      (λ h.
+      let here : a ≡ p = rw h at e in
+      let more : 2 * suc k + r ≡ 2 * (a + suc k - p) + r = omega arith in
+      let at : n + 2 * a ≡ n + 2 * p = omega arith in
+      (omega arith, cc))
+      (λ h.
+      let none = neither (agree (record_at t (n + 2 * a)) f) (agree (record_at t (n + 2 * a + 1)) f) h in
+      let past : a + suc k ≡ a + 1 + k = omega arith in
+      let behind : unwrap_or (find (λ i. in_pair (n + 2 * i)) (range_with_len (a + 1) k)) (a + 1 + k) ≡ p = rw (h, past) at e in
+      let next = pairs_from n r k (a + 1) p behind in
+      let one : 2 * suc k + r ≡ suc (suc (2 * k + r)) = omega arith in
+      let two : n + 2 * a + 1 + 1 ≡ n + 2 * (a + 1) = omega arith in
+      let less : 2 * (a + 1 + k - p) + r ≡ 2 * (a + suc k - p) + r = omega arith in (
+        omega (arith, next.0),
+        ap (λ k. agreeing_from k (n + 2 * a) t f) one ∙ agreeing_on (suc (2 * k + r)) (n + 2 * a) none.0 ∙ agreeing_on (2 * k + r) (n + 2 * a + 1) none.1
+            ∙ ap (λ i. agreeing_from (2 * k + r) i t f) two ∙ next.1 ∙ ap (λ k. agreeing_from k (n + 2 * p) t f) less,
+      ))
+
+  pub agreeing_pairs :
+      (n m p : ℕ) →
+      unwrap_or (find (λ i. in_pair (n + 2 * i)) (range_with_len 0 ((m - n) / 2))) ((m - n) / 2) ≡ p →
+      (2 * p ≤ m - n) × (agreeing_from (m - n) n t f ≡ agreeing_from (m - (n + 2 * p)) (n + 2 * p) t f)
+  agreeing_pairs n m p e =
+      let none_before : 0 + (m - n) / 2 ≡ (m - n) / 2 = omega arith in
+      let first = pairs_from n ((m - n) % 2) ((m - n) / 2) 0 p (rw none_before e) in
+      let whole : m - n ≡ 2 * ((m - n) / 2) + (m - n) % 2 = omega arith in
+      let start : n ≡ n + 2 * 0 = omega arith in
+      let left : 2 * (0 + (m - n) / 2 - p) + (m - n) % 2 ≡ m - (n + 2 * p) = omega (arith, first.0) in (
+        omega (arith, first.0),
+        ap (λ k. agreeing_from k n t f) whole ∙ ap (λ i. agreeing_from (2 * ((m - n) / 2) + (m - n) % 2) i t f) start ∙ first.1
+            ∙ ap (λ k. agreeing_from k (n + 2 * p) t f) left,
+      )
 
   -- It is one of those looked at, and agrees, and none before it does.
   pub record First (k n i : ℕ) : Type 0 where
