@@ -217,7 +217,8 @@ fn check_filter(words: &[u32]) -> Result<(), Refusal>
 }
 
 // The filters of a list, one after the other: each as the words from its first one on. A filter that is cut is the last. It goes by the
-// place of the next one: of words that are cut off the front each time the length too waits for the filter before.
+// place of the next one: of words that are cut off the front each time the length too waits for the filter before. How many tests there
+// are is read off the words that are handed out, so that who asks them reads it no second time.
 #[derive(Clone, Copy, Drop)]
 pub struct Filters<'a> {
     pub list: &'a [u32],
@@ -241,12 +242,12 @@ impl<'a> Iterator for Filters<'a> {
     ghost remaining = { λ s. at_most (length s.list.now - s.at) };
 
     fn next(&mut self) -> Option<&'a [u32]> {
-        let at = self.at;
-        if self.list.len() <= at {
+        if self.list.len() <= self.at {
             return None;
         }
-        self.at = at + filter_words(count_at(self.list, at));
-        Some(&self.list[at..])
+        let words = &self.list[self.at..];
+        self.at += filter_words(count_at(words, 0));
+        Some(words)
     }
 }
 
