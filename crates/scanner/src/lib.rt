@@ -51,13 +51,15 @@ fn fires_set(list: &[u32], header: &Header) -> Set
 }
 
 // Whether filter j is in a set and ranks above filter i. The column has a rank for each filter that a list can have, so that no place is
-// looked for in it, which each pair of filters would pay for.
-#[tactic(auto, unfolding(lists::specs::Columns::above_by))]
+// looked for in it, which each pair of filters would pay for. The groups are looked at first: in most lists most pairs are of two groups.
+#[tactic(auto, unfolding(lists::specs::Columns::above_by, lists::specs::Ranks::outranks))]
 fn beats(ranks: &[Rank; MAX_FILTERS], held: Set, j: usize, i: usize) -> bool
     requires { (j < max_filters) × (i < max_filters) }
     ensures { result ≡ (above_by ranks.now j i && member j held) }
 {
-    sets::has(held, j as u32) && ranks[j].is_above(j, ranks[i], i)
+    let upper = ranks[j];
+    let lower = ranks[i];
+    sets::has(held, j as u32) && upper.group == lower.group && upper.is_above(j, lower, i)
 }
 
 // Whether any of the first n filters does.
