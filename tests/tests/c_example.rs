@@ -87,9 +87,13 @@ fn names_needed() -> Ended {
     }
 }
 
+/// A letter before each name: w where it is only used if somebody brings it.
 fn only_those(needed: &str) {
-    for name in needed.lines().filter_map(|line| line.trim().strip_prefix("U ")) {
-        assert!(FROM_OUTSIDE.contains(&name), "{name} is needed from outside");
+    for line in needed.lines() {
+        let words: Vec<&str> = line.split_whitespace().collect();
+        if let ["U" | "w" | "v", name] = words[..] {
+            assert!(FROM_OUTSIDE.contains(&name), "{name} is needed from outside");
+        }
     }
 }
 

@@ -51,7 +51,7 @@ fn fires_set(list: &[u32], header: &Header) -> Set
 }
 
 // Whether filter j is in a set and ranks above filter i. The column has a rank for each filter that a list can have, so that no place is
-// looked for in it, which each pair of filters would pay for. The groups are looked at first: in most lists most pairs are of two groups.
+// looked for in it, which each pair of filters would pay for. The groups are compared before the levels: of two groups no more need be compared.
 #[tactic(auto, unfolding(lists::specs::Columns::above_by, lists::specs::Ranks::outranks))]
 fn beats(ranks: &[Rank; MAX_FILTERS], held: Set, j: usize, i: usize) -> bool
     requires { (j < max_filters) × (i < max_filters) }

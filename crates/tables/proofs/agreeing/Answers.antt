@@ -1,6 +1,6 @@
 -- `tables::agreeing` meets its contract: no record before the pair that it finds agrees, so the first that does is the first from there on.
 -- Assumes nothing.
-use Prim.Native.Nat.{◌+◌, ◌*◌, ◌-◌, ◌/◌, ◌≤◌}
+use Prim.Native.Nat.{ℕ, ◌+◌, ◌*◌, ◌-◌, ◌/◌, ◌≤◌}
 use native.Mathlib.Omega.{arith}
 use borrow.Author.Tests.{tests}
 use Rattle.std.specs.Option.{unwrap_or}
@@ -15,14 +15,14 @@ use Rattle.tables.proofs.agreeing.Goals as goal
 use Rattle.tables.proofs.agreeing.Goals.{After-unwrap_or}
 
 -- The search may begin at the pair, which is none behind those looked at.
-abbrev Left : goal.After-unwrap_or → Type 0
+abbrev Left : After-unwrap_or → Type 0
 Left c =
     let t = c.args.table.now in
     let f = fresh_by c.args.fresh in
     let first = c.args.from + 2 * c.unwrap_or.result in
     (2 * c.unwrap_or.result ≤ c.args.end - c.args.from) × (agreeing_from (c.args.end - c.args.from) c.args.from t f ≡ agreeing_from (c.args.end - first) first t f)
 
-left : (c : goal.After-unwrap_or) → Left c
+left : (c : After-unwrap_or) → Left c
 left c =
     let pair =
     find_from_yields_List (λ i. in_pair c.args.table.now (fresh_by c.args.fresh) (c.args.from + 2 * i)) _ _ c.find-pair.result c.find-pair.ensures.ran
@@ -41,6 +41,6 @@ pub returns : goal.returns
 returns c =
     let first =
     find_from_yields_List (λ n. agree (record_at c.args.table.now n) (fresh_by c.args.fresh)) _ _ c.find.result c.find.ensures.ran
-    (YieldsList-from_range (c.args.from + 2 * c.unwrap_or.result) c.args.end _ refl refl)
+    (YieldsList-from_range (c.args.from + 2 * c.unwrap_or.result) c.args.end _ (ap (λ (e : ℕ). record { start = c.args.from + 2 * c.unwrap_or.result; end = e }) (omega arith)) refl)
     (λ x b q k. search (rules, tests)) in
     sym (option_map_id c.find.result) ∙ first ∙ sym (agreeing_find _ _ (c.args.end - (c.args.from + 2 * c.unwrap_or.result)) (c.args.from + 2 * c.unwrap_or.result)) ∙ sym (left (goal.at.returns c).After-unwrap_or).1
