@@ -311,7 +311,7 @@ impl Counting<'_> {
         if s.len() < end {
             return None;
         }
-        let set = scanner::scan_accepted(self.list, &s[RECORD_HEADER..end], 0);
+        let set = scanner::scan_accepted(self.list, self.filters(), &s[RECORD_HEADER..end], 0);
         self.count_frame(set);
         Some(Gone {
             taken: end,

@@ -31,7 +31,7 @@ pub const TEST_WORDS: usize = 4;
 // The places of the words in a filter's head; the group is the first.
 const LEVEL_AT: usize = 1;
 
-const COUNT_AT: usize = 2;
+pub const COUNT_AT: usize = 2;
 
 // And in a test.
 pub const KIND_AT: usize = 0;

@@ -1,5 +1,5 @@
 -- A filter's tests asked in turn, and the filters of a list.
-use Rattle.std.specs.Prelude.{ℕ, zero, suc, ◌+◌, ◌*◌, ◌≤◌, ◌<◌, ◌≡◌, refl, Bool, ◌&&◌, ◌||◌, List, length, get_or, drop, false, Option, None, Some, MatchOption, Ok}
+use Rattle.std.specs.Prelude.{ℕ, zero, suc, ◌+◌, ◌*◌, ◌<◌, ◌≡◌, refl, Bool, ◌&&◌, ◌||◌, List, length, get_or, drop, false, Option, None, Some, MatchOption}
 use Rattle.std.proofs.Common.{sym, ap, ◌∙◌, add-zero, zero-add, add-one, arith, drop-drop, lt-ltb}
 use Rattle.std.proofs.Math.Seq.{get_or-drop}
 use Rattle.std.proofs.Math.Bool.{or-false, or_assoc}
@@ -7,12 +7,9 @@ use Rattle.std.specs.List.{range_with_len, list_any, list_all}
 use Rattle.sets.specs.Sets.{some}
 use Rattle.residue.specs.declared.Test.{Test}
 use Rattle.residue.specs.Tests.{holds, holds_of}
-use Rattle.lists.specs.Filters.{max_filters, test_words, Filter, item_of, items_of, filter_of, filters_of}
-use Rattle.lists.specs.declared.Counts.{Counts}
-use Rattle.lists.specs.Refusals.{listed}
-use Rattle.lists.specs.laws.Accepted.{accepted_count}
+use Rattle.lists.specs.Filters.{test_words, Filter, item_of, items_of, filter_of, filters_of}
 use Rattle.lists.specs.Ranks.{no_filter, tests_of, all_hold, fires}
-use Rattle.lists.specs.laws.Walking.{Rest, rest_start, rest_below, rest_filter}
+use Rattle.lists.specs.laws.Walking.{Rest, rest_below, rest_filter}
 
 -- A test holds of a reading where it holds of its value.
 pub held_by : (t : Test) (o : Option ℕ) (b : Bool) (P : ℕ → Type 0) → MatchOption o (b ≡ false) P → ((x : ℕ) → P x → b ≡ holds t x) → b ≡ holds_of t o
@@ -33,13 +30,6 @@ pub some_range : (p : ℕ → Bool) (n : ℕ) → list_any p (range_with_len 0 n
 unfolding some
 some_range p n = sym (some_from p 0 n) ∙ ap (λ (k : ℕ). some k p) (zero-add n)
 
--- An accepted list, before any of its filters is asked.
-pub scan_start : (ws : List ℕ) (c : Counts) → listed ws ≡ Ok c → Rest ws (length (filters_of ws)) 0 ws
-scan_start ws c e = rw ((accepted_count ws c.filters c.tests e).0) (rest_start ws c.filters c.tests e)
-
-pub scan_few : (ws : List ℕ) (c : Counts) → listed ws ≡ Ok c → length (filters_of ws) ≤ max_filters
-scan_few ws c e = let k = accepted_count ws c.filters c.tests e in omega (arith, k.0, k.2)
-
 module _ (r : ℕ → Option ℕ) where
   -- The test that begins at a place holds.
   abbrev pub here : List ℕ → ℕ → Bool
@@ -58,10 +48,10 @@ module _ (r : ℕ → Option ℕ) where
   tests_range ws at n = tests_from ws at 0 n ∙ ap (λ (k : ℕ). all_hold r (items_of n (drop k ws))) (add-zero at)
 
   -- The filter that what is left of an accepted list begins with.
-  pub fires_here : (ws : List ℕ) (i : ℕ) (rest : List ℕ) → Rest ws (length (filters_of ws)) i rest → 0 < length rest → all_hold r (filter_of rest).tests ≡ fires (filters_of ws) r i
+  pub fires_here : (ws : List ℕ) (n i : ℕ) (rest : List ℕ) → length (filters_of ws) ≡ n → Rest ws n i rest → 0 < length rest → all_hold r (filter_of rest).tests ≡ fires (filters_of ws) r i
   unfolding fires
-  fires_here ws i rest h l =
+  fires_here ws n i rest e h l =
       let fs = filters_of ws in
       let f : get_or fs i no_filter ≡ filter_of rest =
-      ap (λ (j : ℕ). get_or fs j no_filter) (sym (add-zero i)) ∙ sym (get_or-drop i fs 0 no_filter) ∙ ap (λ (xs : List Filter). get_or xs 0 no_filter) (rest_filter ws (length fs) i rest h l) in
-      ap (λ (g : Filter). all_hold r g.tests) (sym f) ∙ ap (λ (b : Bool). b && all_hold r (tests_of fs i)) (sym (lt-ltb i (length fs) (omega (arith, rest_below ws (length fs) i rest h l))))
+      ap (λ (j : ℕ). get_or fs j no_filter) (sym (add-zero i)) ∙ sym (get_or-drop i fs 0 no_filter) ∙ ap (λ (xs : List Filter). get_or xs 0 no_filter) (rest_filter ws n i rest h l) in
+      ap (λ (g : Filter). all_hold r g.tests) (sym f) ∙ ap (λ (b : Bool). b && all_hold r (tests_of fs i)) (sym (lt-ltb i (length fs) (omega (arith, e, rest_below ws n i rest h l))))

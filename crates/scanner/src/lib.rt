@@ -1,22 +1,21 @@
 // A list and a frame, without a table: each filter is asked in turn (change request P1).
 #![tactic(auto)]
 
-ghost use Rattle.std.specs.Prelude.{◌≡◌, ◌&&◌, ◌-◌, ◌≤◌, ◌<◌, eqb, length};
+ghost use Rattle.std.specs.Prelude.{ℕ, ◌≡◌, ◌&&◌, ◌-◌, ◌≤◌, ◌<◌, eqb, length};
 ghost use Rattle.std.specs.Int.Bits.{bit_and};
 ghost use Rattle.sets.specs.Sets.{set_of, tally, member};
 ghost use Rattle.residue.specs.Tests.{holds_of};
 ghost use Rattle.fields.specs.Fields.{field};
 ghost use Rattle.fields.specs.Header.{reading_at};
-ghost use Rattle.lists.specs.declared.Counts.{Counts};
 ghost use Rattle.lists.specs.Filters.{max_filters, filter_words, test_of, filter_of, filters_of};
-ghost use Rattle.lists.specs.Refusals.{listed};
+ghost use Rattle.lists.specs.Refusals.{counts, listed};
 ghost use Rattle.lists.specs.Ranks.{all_hold, fires, match_set};
 ghost use Rattle.lists.specs.Columns.{above_by};
 ghost use Rattle.scanner.specs.Scan.{scanned};
 ghost use Rattle.scanner.specs.inner.Standing.{beaten_by, stands_by, top_set};
 
 use fields::{Header, MAX_FRAME};
-use lists::{Filters, HEAD_WORDS, MAX_FILTERS, NO_RANK, Rank, TEST_WORDS, TestWords};
+use lists::{COUNT_AT, HEAD_WORDS, MAX_FILTERS, NO_RANK, Rank, TEST_WORDS, TestWords};
 use refusals::{Refusal, Refused};
 use sets::Set;
 
@@ -34,18 +33,22 @@ fn all_hold(words: &[u32], header: &Header) -> bool
     requires { filter_words words.now ≤ length words.now }
     ensures { result ≡ all_hold (reading_at header.now.present header.now.values) (filter_of words.now).tests }
 {
-    let count = lists::count_at(words, 0) as usize;
+    let count = words[COUNT_AT] as usize;
     (0..count).all(|j| holds(TestWords::at(words, HEAD_WORDS + TEST_WORDS * j), header))
 }
 
-// The set of an accepted list's filters whose tests all hold.
-fn fires_set(list: &[u32], header: &Header) -> Set
-    requires { (c : Counts) × (listed list.now ≡ Ok c) }
+// The set of the filters of an accepted list whose tests all hold; the list has n filters. Not over `Filters`, which ends where the words end:
+// that is known only when the last filter's words have been read, that n filters were asked at once. It missed the bar of P1 (DESIGN-PASS.md).
+fn fires_set(list: &[u32], n: usize, header: &Header) -> Set
+    requires { (t : ℕ) × (listed list.now ≡ Ok (counts n t)) }
     ensures { result ≡ set_of (tally (length (filters_of list.now)) (fires (filters_of list.now) (reading_at header.now.present header.now.values))) }
 {
     let mut set: Set = 0;
-    for (i, words) in Filters::new(list).enumerate() {
+    let mut at: usize = 0;
+    for i in 0..n {
+        let words = &list[at..];
         set = sets::put(set, i as u32, all_hold(words, header));
+        at += lists::filter_words(words[COUNT_AT]);
     }
     set
 }
@@ -95,15 +98,15 @@ fn top_set(list: &[u32], held: Set) -> Set
     lists::set_where(n, |i| stands(&ranks, n, held, i))
 }
 
-// The match set of a frame by an accepted list, which is not checked again. Of most frames one filter holds at most:
+// The match set of a frame by an accepted list of n filters, which is not checked again. Of most frames one filter holds at most:
 // then no rank is looked at.
-pub fn scan_accepted(list: &[u32], frame: &[u8], port: u8) -> Set
-    requires { (c : Counts) × (listed list.now ≡ Ok c) }
+pub fn scan_accepted(list: &[u32], n: usize, frame: &[u8], port: u8) -> Set
+    requires { (t : ℕ) × (listed list.now ≡ Ok (counts n t)) }
     ensures { result ≡ match_set (filters_of list.now) (field frame.now port) }
 {
     let mut header = Header::new();
     header.read(frame, port);
-    let held = fires_set(list, &header);
+    let held = fires_set(list, n, &header);
     if lone(held) {
         return held;
     }
@@ -114,10 +117,10 @@ pub fn scan_accepted(list: &[u32], frame: &[u8], port: u8) -> Set
 pub fn scan(list: &[u32], frame: &[u8], port: u8) -> Result<Set, Refused<u32>>
     ensures { result ≡ scanned list.now frame.now port }
 {
-    lists::check(list)?;
+    let checked = lists::check(list)?;
     let is_long = MAX_FRAME < frame.len();
     if is_long {
         return Err(Refusal::LongFrame.into());
     }
-    Ok(scan_accepted(list, frame, port))
+    Ok(scan_accepted(list, checked.filters as usize, frame, port))
 }

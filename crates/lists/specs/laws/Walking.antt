@@ -9,6 +9,7 @@
 --   At ws n i at      the words ws are an accepted list of n filters, and filter i begins at the place at, or the list ends there
 --   Here ws at        a filter begins there: its words are in the list, and its tests are few
 --   at_start, at_next, at_end         the same loop by places: its start, its turn, its end
+--   left                              what is left of the list there
 --   sound_here, at_here, at_rest      what it may read there, and the filters that it still has before it
 use Rattle.std.specs.Prelude.{ℕ, zero, suc, ◌+◌, ◌-◌, ◌≤◌, ◌<◌, ◌≡◌, refl, List, [], ◌∷◌, length, drop, Ok, Err}
 use Rattle.std.proofs.Common.{not-suc-le-zero, zero-lt-suc, arith, sym, ap, ◌∙◌, length-drop, drop-drop}
@@ -174,7 +175,7 @@ at_start ws n t e = let r = rest_start ws n t e in record { accepted = r.accepte
 
 -- Words are left exactly while filters are still to come.
 module _ (ws : List ℕ) (n i at : ℕ) (here : At ws n i at) where
-  left : Rest ws n i (drop at ws)
+  pub left : Rest ws n i (drop at ws)
   left = record { accepted = here.accepted; filters = here.rest }
 
   some_left : (r : List ℕ) → Rest ws n i r → i < n → 0 < length r

@@ -14,5 +14,5 @@ unfolding filter_of item_of words_of
 returns c =
     let r = reading_at c.args.header.now.present c.args.header.now.values in
     let n = count_word c.args.words.now in
-    all_from_yields_List (λ j. here r c.args.words.now (head_words + test_words * j)) _ _ _ c.all.ensures.ran (YieldsList-from_range 0 c.count_at-count.result n refl (sub-zero _ ∙ c.count_at-count.ensures)) (λ x b q k. search (rules, tests)) ∙
+    all_from_yields_List (λ j. here r c.args.words.now (head_words + test_words * j)) _ _ _ c.all.ensures.ran (YieldsList-from_range 0 _ n refl (sub-zero n)) (λ x b q k. search (rules, tests)) ∙
     tests_range r c.args.words.now head_words n

@@ -1,16 +1,15 @@
--- What is left of the list, and the tally of the filters passed.
-use Rattle.std.proofs.Common.{◌≡◌, length}
-use Rattle.std.specs.Iterator.Adapters.{enumerate_source, enumerate_count}
+-- The next filter begins at the place, and the set is the tally of the filters passed.
+use Rattle.std.proofs.Common.{◌≡◌, ◌≤◌, length}
 use Rattle.sets.specs.Sets.{set_of, tally}
 use Rattle.fields.specs.Header.{reading_at}
 use Rattle.lists.specs.Filters.{filters_of}
 use Rattle.lists.specs.Ranks.{fires}
-use Rattle.lists.specs.Walk.{left_in}
-use Rattle.lists.specs.laws.Walking.{Rest}
+use Rattle.lists.specs.laws.Walking.{At}
 use Rattle.scanner.proofs.fires_set.Given as goal
 
 abbrev pub invariant-loop-i : goal.invariant-loop-i
 invariant-loop-i l = record {
-  rest : Rest l.list (length (filters_of l.list)) (enumerate_count l.i-iterator) (left_in (enumerate_source l.i-iterator));
-  fired : l.set ≡ set_of (tally (enumerate_count l.i-iterator) (fires (filters_of l.list) (reading_at l.header.present l.header.values)));
+  within : l.at ≤ length l.list;
+  here : At l.list l.n l.i l.at;
+  fired : l.set ≡ set_of (tally l.i (fires (filters_of l.list) (reading_at l.header.present l.header.values)));
 }

@@ -17,7 +17,7 @@ returns-then-is_long-clause-went c =
     (accepted_count _ _ _ c.args.self.now.accepted).0 _ _ c.pass-then-is_long.ensures.gone c.if-is_short.false c.if-is_long.true c.pass-then-is_long.ensures.counts
 
 pub scan_accepted-set-requires : goal.scan_accepted-set-requires
-scan_accepted-set-requires c = (c.args.self.now.checked, c.args.self.now.accepted)
+scan_accepted-set-requires c = (c.args.self.now.checked.tests, rw c.filters.ensures.value c.args.self.now.accepted)
 
 pub returns-clause-went : goal.returns-clause-went
 returns-clause-went c =
