@@ -66,6 +66,11 @@ word_held : (p : Option ℕ) (b v : ℕ) → step p b ≡ Ok (Word v) → held p
 word_held None b v e = absurd (none_ends b v e)
 word_held (Some u) b v e = refl
 
+-- A byte is wrong for one reason.
+wrong_why : (p : Option ℕ) (b : ℕ) (e : Refusal) → step p b ≡ Err e → e ≡ text_refusal
+unfolding step more
+wrong_why p b e f = grind arith
+
 -- One word more is stored.
 module _ (words : List ℕ) (count v : ℕ) where
   store_take : count < length words → take (count + 1) (set words count v) ≡ take count words ++ (v ∷ [])
@@ -103,10 +108,14 @@ module _ (t before words : List ℕ) (count : ℕ) (place : Option ℕ) (i : ℕ
   pub spelt : (v : ℕ) → i < length t → step place (get_or t i 0) ≡ Ok (Digit v) → Reading t before words count (Some v) (i + 1)
   spelt v h e = moved (Some v) h (rw (scan_next h, e))
 
-  pub wrong_read : (e : Refusal) → i < length t → step place (get_or t i 0) ≡ Err e → Reads t before words (Err text_refusal)
+  pub wrong_read : (e : Refusal) → i < length t → step place (get_or t i 0) ≡ Err e → Reads t before words (Err e)
   wrong_read e h f =
-      comes_to t before words count false (Err text_refusal) refl r.short (omega arith) r.kept
+      comes_to t before words count false (Err e) (ap Err (wrong_why place (get_or t i 0) e f)) r.short (omega arith) r.kept
       (rw (r.rest, scan_next h, f, append-nil (take count words)))
+
+  -- The same with the refusal by its name.
+  pub wrong_refused : (e : Refusal) → i < length t → step place (get_or t i 0) ≡ Err e → Reads t before words (Err text_refusal)
+  wrong_refused e h f = rw (wrong_why place (get_or t i 0) e f) at (wrong_read e h f)
 
   pub stored : (v : ℕ) → i < length t → step place (get_or t i 0) ≡ Ok (Word v) → Reading t before (set words count v) (count + 1) None (i + 1)
   stored v h e =

@@ -2,7 +2,7 @@
 -- Assumes nothing.
 use Rattle.std.proofs.Common.{sym, ◌∙◌, ap}
 use Rattle.std.specs.Prelude.{Ok}
-use Rattle.text.proofs.Turns.{skipped, spelt, stored, wrong_read, ended_apart, ended_inside}
+use Rattle.text.proofs.Turns.{skipped, spelt, stored, wrong_refused, ended_apart, ended_inside}
 use Rattle.text.proofs.read_items.Goals as goal
 use Rattle.text.proofs.read_items.Goals.{in-Skip, in-Digit, in-Word}
 
@@ -18,7 +18,7 @@ loop-byte-preserved c =
     ]
 
 pub returns-in_default : goal.returns-in_default
-returns-in_default c = wrong_read _ _ _ _ _ _ c.loop-byte.invariant _ c.loop-byte-test.true (sym c.step_by.ensures ∙ c.in_default.is)
+returns-in_default c = wrong_refused _ _ _ _ _ _ c.loop-byte.invariant _ c.loop-byte-test.true (sym c.step_by.ensures ∙ c.in_default.is)
 
 pub returns-in_default-place : goal.returns-in_default-place
 returns-in_default-place c = ended_apart _ _ _ _ _ _ c.loop-byte.invariant c.loop-byte-test.false c.in_default-place.is
