@@ -113,7 +113,7 @@ module _ (t before words : List ℕ) (count : ℕ) (place : Option ℕ) (i : ℕ
       comes_to t before words count false (Err e) (ap Err (wrong_why place (get_or t i 0) e f)) r.short (omega arith) r.kept
       (rw (r.rest, scan_next h, f, append-nil (take count words)))
 
-  -- The same with the refusal by its name.
+  -- The same by the refusal's name, which is what `read_items` answers with.
   pub wrong_refused : (e : Refusal) → i < length t → step place (get_or t i 0) ≡ Err e → Reads t before words (Err text_refusal)
   wrong_refused e h f = rw (wrong_why place (get_or t i 0) e f) at (wrong_read e h f)
 
